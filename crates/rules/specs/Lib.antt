@@ -1,0 +1,13 @@
+pub mod Object
+pub mod Faithful
+pub mod Link
+pub mod Walk
+pub mod Together
+pub mod Bytes
+pub mod Answers
+pub mod Tables
+pub mod Maps
+pub mod Records
+pub mod Rows
+pub mod Readers
+pub mod Entries
