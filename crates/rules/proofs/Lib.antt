@@ -10,6 +10,7 @@ pub mod Ending
 pub mod Unfolds
 pub mod Demand3
 pub mod Writing
+pub mod Rounds
 pub mod Lookups
 pub mod Invariant
 pub mod Limits

@@ -20,7 +20,7 @@ use Rattle.rules.specs.Bytes.{Order, little, big, number2, number4, sign
 use Rattle.rules.proofs.Splices.{splice-length, splice-before, splice-in, splice-past}
 use Rattle.rules.proofs.Linking.{length-run, run-at}
 
-signed-unsigned : (half : ℕ) (z : ℤ) → Fits half z → signed half (unsigned half z) ≡ z
+pub signed-unsigned : (half : ℕ) (z : ℤ) → Fits half z → signed half (unsigned half z) ≡ z
 unfolding signed unsigned
 signed-unsigned half (pos n) l = rw (lt-ltb n half l) refl
 signed-unsigned half (negsuc n) l =

@@ -1,0 +1,4 @@
+pub mod Signed
+pub mod Zeros
+pub mod Places
+pub mod Laws
