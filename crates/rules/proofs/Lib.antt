@@ -11,6 +11,9 @@ pub mod Unfolds
 pub mod Demand3
 pub mod Writing
 pub mod Rounds
+pub mod Searches
+pub mod Passed
+pub mod Refusing
 pub mod Lookups
 pub mod Invariant
 pub mod Limits

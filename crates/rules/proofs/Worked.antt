@@ -15,7 +15,7 @@ use Rattle.rules.specs.Answers.{Reply, reply}
 use Rattle.rules.specs.Tables.{objectOf}
 use Rattle.rules.specs.Records.{imageFunctions, imageLines, admits, rootAdmits, linkStep}
 use Rattle.rules.specs.Maps.{judge, firstRefusal, applied, rewriteAll, mapStep}
-use Rattle.rules.specs.Rows.{noneNumber, Offered, codeSection, symbolIndex, symbolSection, symbolAddress, symbolKind, functionSection, functionSlots, functionAddress, functionOffset, functionFuncInfo, functionLineInfo, relocationSection, relocationSymbol, relocationOffset, relocationSize, mapSection, mapSymbol, mapFd, mapHasData, recordSlot, recordType, recordFile, recordLine, recordColumn, isGood, total, tooMany, brokenIn, broken, mapStepRefusal, linkRefusal, tablesOf}
+use Rattle.rules.specs.Rows.{noneNumber, Offered, codeSection, symbolIndex, symbolSection, symbolAddress, symbolKind, functionSection, functionSlots, functionAddress, functionOffset, functionFuncInfo, functionLineInfo, relocationSection, relocationSymbol, relocationOffset, relocationSize, mapSection, mapSymbol, mapFd, mapHasData, recordSlot, recordType, recordFile, recordLine, recordColumn, isGood, firstBroken, total, tooMany, brokenIn, broken, mapStepRefusal, linkRefusal, tablesOf}
 use Rattle.rules.specs.Entries.{MapResult, mapEntry, Outputs, LinkResult, linkEntry}
 use Rattle.rules.specs.Walk.{kind, leads, inSource, inImage, Walk, standing, stopped, ended, left, SourcePlace, place, sourceWalk, imageWalk}
 
@@ -241,7 +241,7 @@ pub worked : (
 unfolding isCall isBlank isWideLoad decide meaning displacement calling referring visit append link
     u16At u32At u64At signed unsigned decode encode decoded encoded padded objectOf imageFunctions imageLines admits rootAdmits linkStep
     judge firstRefusal applied rewriteAll mapStep codeSection symbolIndex symbolSection symbolAddress symbolKind functionSection functionSlots functionAddress functionOffset functionFuncInfo functionLineInfo relocationSection relocationSymbol relocationOffset relocationSize mapSection mapSymbol mapFd mapHasData recordSlot recordType recordFile recordLine recordColumn
-    isGood total tooMany brokenIn broken mapStepRefusal linkRefusal tablesOf mapEntry linkEntry kind
+    isGood firstBroken total tooMany brokenIn broken mapStepRefusal linkRefusal tablesOf mapEntry linkEntry kind
 worked = refl
 
 -- ---- walks: the nested object in its tables and in its image, and one image for each kind of move

@@ -9,5 +9,6 @@ pub mod Tables
 pub mod Maps
 pub mod Records
 pub mod Rows
+pub mod Lookups
 pub mod Readers
 pub mod Entries

@@ -220,10 +220,10 @@ isGood Instructions t k = true
 isGood FuncInfo t k = true
 isGood LineInfo t k = true
 
--- the first of `count` rows, from row k on, that fails
-abbrev pub firstBad : (ℕ → Bool) → ℕ → ℕ → Option ℕ
-firstBad good k zero = none
-firstBad good k (suc count) = cond (good k) (firstBad good (suc k) count) (some k)
+-- the first of n rows, from row k on, that passes a test
+abbrev pub firstFrom : (ℕ → Bool) → ℕ → ℕ → Option ℕ
+firstFrom test k zero = none
+firstFrom test k (suc n) = cond (test k) (some k) (firstFrom test (suc k) n)
 
 -- ---- the tables as they are offered
 
@@ -253,6 +253,30 @@ mapStepTables = Code ∷ Symbols ∷ Functions ∷ Relocations ∷ Maps ∷ Inst
 
 abbrev pub linkTables : List Table
 linkTables = Code ∷ Symbols ∷ Functions ∷ Relocations ∷ Instructions ∷ FuncInfo ∷ LineInfo ∷ []
+
+abbrev pub mapStepOffer : List ℕ → List ℕ → List ℕ → List ℕ → List ℕ → List ℕ → Offered
+mapStepOffer code symbols functions relocations maps instructions = record {
+  code = code;
+  symbols = symbols;
+  functions = functions;
+  relocations = relocations;
+  maps = maps;
+  instructions = instructions;
+  funcInfo = [];
+  lineInfo = [];
+}
+
+abbrev pub linkOffer : List ℕ → List ℕ → List ℕ → List ℕ → List ℕ → List ℕ → List ℕ → Offered
+linkOffer code symbols functions relocations instructions funcInfo lineInfo = record {
+  code = code;
+  symbols = symbols;
+  functions = functions;
+  relocations = relocations;
+  maps = [];
+  instructions = instructions;
+  funcInfo = funcInfo;
+  lineInfo = lineInfo;
+}
 
 -- ---- "Tables 6, 7, 8 hold exactly the rows that table 3 adds up to"
 
@@ -291,9 +315,9 @@ orPartial (some k) p rows = some k
 orPartial none true rows = some rows
 orPartial none false rows = none
 
-abbrev pub firstBroken : Table → List ℕ → Option ℕ
+unfoldable pub firstBroken : Table → List ℕ → Option ℕ
 firstBroken table bytes =
-    orPartial (firstBad (isGood table bytes) 0 (wholeRows table bytes)) (isPartial table bytes) (wholeRows table bytes)
+    orPartial (firstFrom (λ k. not (isGood table bytes k)) 0 (wholeRows table bytes)) (isPartial table bytes) (wholeRows table bytes)
 
 -- "6 to 8: wrong total"; the row is then 0
 abbrev pub wrongTotal : Table → Offered → Option ℕ
@@ -320,6 +344,11 @@ broken o (table ∷ tables) = orBroken (brokenIn table o) table (broken o tables
 abbrev pub orElse : Option Reply → Option Reply → Option Reply
 orElse none later = later
 orElse (some r) later = some r
+
+-- a check's own reply: the refusal, or done
+abbrev pub orDone : Option Reply → Reply
+orDone none = reply 0 0 0 0
+orDone (some r) = r
 
 -- 13: "root is no row of table 3"
 abbrev pub noRoot : Offered → ℕ → Option Reply

@@ -12,6 +12,12 @@ pub enum Table {
     LineInfo,
 }
 
+// A row of a table, or none.
+pub enum Found {
+    At(usize),
+    Nothing,
+}
+
 // A count of slots: eight bytes each.
 pub struct Slot(pub u32);
 

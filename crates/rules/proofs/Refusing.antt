@@ -1,0 +1,198 @@
+-- A check that says done has refused nothing, and what that gives: every table sound, the totals right, the root a row.
+-- Assumes nothing.
+use mathlib.Core.Path.{_≡_, refl, sym, ap, _∙_}
+use mathlib.Core.Bool.{Bool, true, false, cond}
+use mathlib.Core.Option.{Option, none, some}
+use mathlib.Core.List.{List, [], _∷_, List·Memᴰ, List·Memᴰ·head, List·Memᴰ·tail, List·Memᴰ·cases-cons, List·Memᴰ·not-nil}
+use mathlib.Core.Logic.{_⊎_, inl, inr, _≢_}
+use Prim.Native.Nat.{ℕ, zero, suc, _+_, _*_, _≤_, _<_}
+use native.Mathlib.Omega.{arith}
+use borrow.Author.Tests.{eqb-true, ltb-true}
+use lib.Dec.{eqb, ltb}
+use lib.ListN.{length}
+use Rattle.rules.specs.declared.Table.{Table}
+use Rattle.rules.specs.declared.Table.the-variants.{Code, Symbols, Functions, Relocations, Maps, Instructions, FuncInfo, LineInfo}
+use Rattle.rules.specs.Answers.{Reply, reply}
+use Rattle.rules.specs.Rows.{rowSize, tableNumber, wholeRows, isTooMany, Offered, bytesOf, mapStepTables, linkTables, total, tooMany, wrongTotal, brokenIn, orBroken, broken, orElse, orDone, noRoot, mapStepRefusal, linkRefusal}
+use Rattle.rules.specs.Lookups.{Sound}
+
+-- a refusal's number is not 0
+abbrev Refuses : Option Reply → Type 0
+Refuses none = Unit {0}
+Refuses (some r) = r .number ≢ 0
+
+too-many-refuses : (o : Offered) (ts : List Table) → Refuses (tooMany o ts)
+unfolding tooMany
+too-many-refuses o [] = tt
+too-many-refuses o (t ∷ ts) = go (isTooMany t (bytesOf o t)) (too-many-refuses o ts)
+  where
+    go : (b : Bool) → Refuses (tooMany o ts) → Refuses (cond b (some (reply 1 (tableNumber t) 0 0)) (tooMany o ts))
+    go true later = λ e. omega arith
+    go false later = later
+
+broken-refuses : (o : Offered) (ts : List Table) → Refuses (broken o ts)
+unfolding broken
+broken-refuses o [] = tt
+broken-refuses o (t ∷ ts) = go (brokenIn t o) (broken-refuses o ts)
+  where
+    go : (b : Option ℕ) → Refuses (broken o ts) → Refuses (orBroken b t (broken o ts))
+    go none later = later
+    go (some row) later = λ e. omega arith
+
+root-refuses : (o : Offered) (root : ℕ) → Refuses (noRoot o root)
+root-refuses o root = go (ltb root (wholeRows Functions (o .functions)))
+  where
+    go : (b : Bool) → Refuses (cond b none (some (reply 13 0 0 0)))
+    go true = tt
+    go false = λ e. omega arith
+
+either-refuses : (a b : Option Reply) → Refuses a → Refuses b → Refuses (orElse a b)
+either-refuses none b ra rb = rb
+either-refuses (some r) b ra rb = ra
+
+map-refuses : (o : Offered) → Refuses (mapStepRefusal o)
+unfolding mapStepRefusal
+map-refuses o = either-refuses (tooMany o mapStepTables) (broken o mapStepTables) (too-many-refuses o mapStepTables) (broken-refuses o mapStepTables)
+
+link-refuses : (o : Offered) (root : ℕ) → Refuses (linkRefusal o root)
+unfolding linkRefusal
+link-refuses o root =
+    either-refuses (tooMany o linkTables) (orElse (broken o linkTables) (noRoot o root)) (too-many-refuses o linkTables)
+    (either-refuses (broken o linkTables) (noRoot o root) (broken-refuses o linkTables) (root-refuses o root))
+
+done-passed : (r : Option Reply) → Refuses r → orDone r .number ≡ 0 → r ≡ none
+done-passed none n e = refl
+done-passed (some r) n e = absurd (n e)
+
+refused-is : (r : Option Reply) → orDone r .number ≢ 0 → r ≡ some (orDone r)
+refused-is none n = absurd (n refl)
+refused-is (some r) n = refl
+
+module _ (o : Offered) where
+  -- number 0: nothing refused. Any other: that refusal
+  pub map-passed : orDone (mapStepRefusal o) .number ≡ 0 → mapStepRefusal o ≡ none
+  map-passed e = done-passed (mapStepRefusal o) (map-refuses o) e
+
+  pub map-refused : orDone (mapStepRefusal o) .number ≢ 0 → mapStepRefusal o ≡ some (orDone (mapStepRefusal o))
+  map-refused n = refused-is (mapStepRefusal o) n
+
+  pub link-passed : (root : ℕ) → orDone (linkRefusal o root) .number ≡ 0 → linkRefusal o root ≡ none
+  link-passed root e = done-passed (linkRefusal o root) (link-refuses o root) e
+
+  pub link-refused : (root : ℕ) → orDone (linkRefusal o root) .number ≢ 0 → linkRefusal o root ≡ some (orDone (linkRefusal o root))
+  link-refused root n = refused-is (linkRefusal o root) n
+
+-- ---- what passing gives
+or-none : (a b : Option Reply) → orElse a b ≡ none → (a ≡ none) × (b ≡ none)
+or-none none b e = (refl, e)
+or-none (some r) b e = let z : _≡_ {A = ℕ} 0 1 = cc in absurd (omega arith)
+
+module _ (o : Offered) where
+  all-few : (ts : List Table) → tooMany o ts ≡ none → (t : Table) → List·Memᴰ t ts → isTooMany t (bytesOf o t) ≡ false
+  unfolding tooMany
+  all-few [] e t m = absurd (List·Memᴰ·not-nil m)
+  all-few (u ∷ ts) e t m = go (isTooMany u (bytesOf o u)) refl e (List·Memᴰ·cases-cons m) (λ rest. all-few ts rest t)
+    where
+      go : (b : Bool) → isTooMany u (bytesOf o u) ≡ b → cond b (some (reply 1 (tableNumber u) 0 0)) (tooMany o ts) ≡ none → (t ≡ u) ⊎ List·Memᴰ t ts
+          → (tooMany o ts ≡ none → List·Memᴰ t ts → isTooMany t (bytesOf o t) ≡ false) → isTooMany t (bytesOf o t) ≡ false
+      go true f e w later = let z : _≡_ {A = ℕ} 0 1 = cc in absurd (omega arith)
+      go false f e (inl same) later = ap (λ x. isTooMany x (bytesOf o x)) same ∙ f
+      go false f e (inr m) later = later e m
+
+  all-whole : (ts : List Table) → broken o ts ≡ none → (t : Table) → List·Memᴰ t ts → brokenIn t o ≡ none
+  unfolding broken
+  all-whole [] e t m = absurd (List·Memᴰ·not-nil m)
+  all-whole (u ∷ ts) e t m = go (brokenIn u o) refl e (List·Memᴰ·cases-cons m) (λ rest. all-whole ts rest t)
+    where
+      go : (b : Option ℕ) → brokenIn u o ≡ b → orBroken b u (broken o ts) ≡ none → (t ≡ u) ⊎ List·Memᴰ t ts
+          → (broken o ts ≡ none → List·Memᴰ t ts → brokenIn t o ≡ none) → brokenIn t o ≡ none
+      go (some row) f e w later = let z : _≡_ {A = ℕ} 0 1 = cc in absurd (omega arith)
+      go none f e (inl same) later = ap (λ x. brokenIn x o) same ∙ f
+      go none f e (inr m) later = later e m
+
+  exact : (t : Table) → wrongTotal t o ≡ none → length (bytesOf o t) ≡ rowSize t * total t (o .functions)
+  exact t e = go (eqb (length (bytesOf o t)) (rowSize t * total t (o .functions))) refl e
+    where
+      go : (b : Bool) → eqb (length (bytesOf o t)) (rowSize t * total t (o .functions)) ≡ b → cond {A = Option ℕ} b none (some 0) ≡ none
+          → length (bytesOf o t) ≡ rowSize t * total t (o .functions)
+      go true f e = eqb-true _ _ f
+      go false f e = let z : _≡_ {A = ℕ} 0 1 = cc in absurd (omega arith)
+
+-- tables that the map step, or the link, has checked
+pub record MapSound (o : Offered) : Type 0 where
+  pub code : Sound Code (o .code)
+  pub symbols : Sound Symbols (o .symbols)
+  pub functions : Sound Functions (o .functions)
+  pub relocations : Sound Relocations (o .relocations)
+  pub maps : Sound Maps (o .maps)
+  pub few : isTooMany Instructions (o .instructions) ≡ false
+  pub instructions : length (o .instructions) ≡ rowSize Instructions * total Instructions (o .functions)
+
+pub record LinkSound (o : Offered) (root : ℕ) : Type 0 where
+  pub code : Sound Code (o .code)
+  pub symbols : Sound Symbols (o .symbols)
+  pub functions : Sound Functions (o .functions)
+  pub relocations : Sound Relocations (o .relocations)
+  pub few-instructions : isTooMany Instructions (o .instructions) ≡ false
+  pub few-functions : isTooMany FuncInfo (o .funcInfo) ≡ false
+  pub few-lines : isTooMany LineInfo (o .lineInfo) ≡ false
+  pub instructions : length (o .instructions) ≡ rowSize Instructions * total Instructions (o .functions)
+  pub funcInfo : length (o .funcInfo) ≡ rowSize FuncInfo * total FuncInfo (o .functions)
+  pub lineInfo : length (o .lineInfo) ≡ rowSize LineInfo * total LineInfo (o .functions)
+  pub root-row : root < wholeRows Functions (o .functions)
+
+at0 : {x : Table} {xs : List Table} → List·Memᴰ x (x ∷ xs)
+at0 = List·Memᴰ·head refl
+
+pub map-sound : (o : Offered) → mapStepRefusal o ≡ none → MapSound o
+unfolding mapStepRefusal brokenIn
+map-sound o e =
+    let p = or-none (tooMany o mapStepTables) (broken o mapStepTables) e in
+    let few = all-few o mapStepTables (p .0) in
+    let ok = all-whole o mapStepTables (p .1) in
+    record {
+      code = record { few = few Code at0; unbroken = ok Code at0 };
+      symbols = record { few = few Symbols (List·Memᴰ·tail at0); unbroken = ok Symbols (List·Memᴰ·tail at0) };
+      functions = record { few = few Functions (List·Memᴰ·tail (List·Memᴰ·tail at0)); unbroken = ok Functions (List·Memᴰ·tail (List·Memᴰ·tail at0)) };
+      relocations = record {
+        few = few Relocations (List·Memᴰ·tail (List·Memᴰ·tail (List·Memᴰ·tail at0)));
+        unbroken = ok Relocations (List·Memᴰ·tail (List·Memᴰ·tail (List·Memᴰ·tail at0)));
+      };
+      maps = record {
+        few = few Maps (List·Memᴰ·tail (List·Memᴰ·tail (List·Memᴰ·tail (List·Memᴰ·tail at0))));
+        unbroken = ok Maps (List·Memᴰ·tail (List·Memᴰ·tail (List·Memᴰ·tail (List·Memᴰ·tail at0))));
+      };
+      few = few Instructions (List·Memᴰ·tail (List·Memᴰ·tail (List·Memᴰ·tail (List·Memᴰ·tail (List·Memᴰ·tail at0)))));
+      instructions = exact o Instructions (ok Instructions (List·Memᴰ·tail (List·Memᴰ·tail (List·Memᴰ·tail (List·Memᴰ·tail (List·Memᴰ·tail at0))))));
+    }
+
+pub link-sound : (o : Offered) (root : ℕ) → linkRefusal o root ≡ none → LinkSound o root
+unfolding linkRefusal brokenIn
+link-sound o root e =
+    let p = or-none (tooMany o linkTables) (orElse (broken o linkTables) (noRoot o root)) e in
+    let q = or-none (broken o linkTables) (noRoot o root) (p .1) in
+    let few = all-few o linkTables (p .0) in
+    let ok = all-whole o linkTables (q .0) in
+    record {
+      code = record { few = few Code at0; unbroken = ok Code at0 };
+      symbols = record { few = few Symbols (List·Memᴰ·tail at0); unbroken = ok Symbols (List·Memᴰ·tail at0) };
+      functions = record { few = few Functions (List·Memᴰ·tail (List·Memᴰ·tail at0)); unbroken = ok Functions (List·Memᴰ·tail (List·Memᴰ·tail at0)) };
+      relocations = record {
+        few = few Relocations (List·Memᴰ·tail (List·Memᴰ·tail (List·Memᴰ·tail at0)));
+        unbroken = ok Relocations (List·Memᴰ·tail (List·Memᴰ·tail (List·Memᴰ·tail at0)));
+      };
+      few-instructions = few Instructions at4;
+      few-functions = few FuncInfo (List·Memᴰ·tail at4);
+      few-lines = few LineInfo (List·Memᴰ·tail (List·Memᴰ·tail at4));
+      instructions = exact o Instructions (ok Instructions at4);
+      funcInfo = exact o FuncInfo (ok FuncInfo (List·Memᴰ·tail at4));
+      lineInfo = exact o LineInfo (ok LineInfo (List·Memᴰ·tail (List·Memᴰ·tail at4)));
+      root-row = root-below (ltb root (wholeRows Functions (o .functions))) refl (q .1);
+    }
+  where
+    at4 : {x a b c d : Table} {xs : List Table} → List·Memᴰ x (a ∷ b ∷ c ∷ d ∷ x ∷ xs)
+    at4 = List·Memᴰ·tail (List·Memᴰ·tail (List·Memᴰ·tail (List·Memᴰ·tail at0)))
+
+    root-below : (b : Bool) → ltb root (wholeRows Functions (o .functions)) ≡ b → cond b none (some (reply 13 0 0 0)) ≡ none → root < wholeRows Functions (o .functions)
+    root-below true f e = ltb-true _ _ f
+    root-below false f e = let z : _≡_ {A = ℕ} 0 1 = cc in absurd (omega arith)

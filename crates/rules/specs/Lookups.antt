@@ -1,0 +1,60 @@
+-- The lookups of document 01 over the tables' bytes, by row number: what a search of a checked table answers.
+-- Assumes nothing.
+use mathlib.Core.Path.{_≡_}
+use mathlib.Core.Logic.{_⊎_}
+use mathlib.Core.Bool.{Bool, true, false, cond, not, _&&_, _||_}
+use mathlib.Core.Option.{Option, none, some}
+use mathlib.Core.List.{List}
+use Prim.Native.Nat.{ℕ, _<_}
+use lib.IntN.{ℤ}
+use lib.Dec.{eqb}
+use Rattle.rules.specs.declared.Table.{Table}
+use Rattle.rules.specs.declared.Table.the-variants.{Code, Symbols, Functions, Relocations, Maps}
+use Rattle.rules.specs.declared.Found.{Found}
+use Rattle.rules.specs.declared.Found.the-variants.{At, Nothing}
+use Rattle.rules.specs.Tables.{isAt, isSome}
+use Rattle.rules.specs.Maps.{isSymbol, hasNone}
+use Rattle.rules.specs.Rows.{wholeRows, isTooMany, firstBroken, firstFrom, codeSection, symbolIndex, functionSection, functionAddress, relocationSection, relocationOffset, mapSection, mapSymbol, orNone, noneNumber}
+
+abbrev pub foundOf : Option ℕ → Found
+foundOf none = Nothing
+foundOf (some k) = At k
+
+-- a table that neither 1 nor 2 refuses
+pub record Sound (table : Table) (t : List ℕ) : Type 0 where
+  pub few : isTooMany table t ≡ false
+  pub unbroken : firstBroken table t ≡ none
+
+-- is a section in table 1
+unfoldable pub isCodeSection : List ℕ → ℕ → Bool
+isCodeSection t home = isSome (firstFrom (λ k. eqb home (codeSection t k)) 0 (wholeRows Code t))
+
+-- the symbol with that index
+unfoldable pub symbolWith : List ℕ → ℕ → Option ℕ
+symbolWith t index = firstFrom (λ k. eqb (symbolIndex t k) index) 0 (wholeRows Symbols t)
+
+-- the function with that section and exactly that address
+unfoldable pub functionWith : List ℕ → ℕ → ℤ → Option ℕ
+functionWith t home address = firstFrom (λ k. eqb (functionSection t k) home && isAt (functionAddress t k) address) 0 (wholeRows Functions t)
+
+-- the relocation of that section at that offset
+unfoldable pub relocationWith : List ℕ → ℕ → ℕ → Option ℕ
+relocationWith t home offset = firstFrom (λ k. eqb (relocationSection t k) home && eqb (relocationOffset t k) offset) 0 (wholeRows Relocations t)
+
+-- "the map with that symbol, else the map of that section without a symbol"
+unfoldable pub mapWithSymbol : List ℕ → ℕ → Option ℕ
+mapWithSymbol t symbol = firstFrom (λ k. isSymbol symbol (orNone (mapSymbol t k))) 0 (wholeRows Maps t)
+
+unfoldable pub mapOfSection : List ℕ → ℕ → Option ℕ
+mapOfSection t home = firstFrom (λ k. eqb (mapSection t k) home && hasNone (orNone (mapSymbol t k))) 0 (wholeRows Maps t)
+
+-- keys that rise strictly over the first n rows, one number or a pair
+unfoldable pub Rising : (ℕ → ℕ) → ℕ → Type 0
+Rising key n = (i j : ℕ) → i < j → j < n → key i < key j
+
+-- (a, b) before (c, d)
+abbrev pub Before : ℕ → ℕ → ℕ → ℕ → Type 0
+Before a b c d = (a < c) ⊎ ((a ≡ c) × (b < d))
+
+unfoldable pub RisingPair : (ℕ → ℕ) → (ℕ → ℕ) → ℕ → Type 0
+RisingPair first second n = (i j : ℕ) → i < j → j < n → Before (first i) (second i) (first j) (second j)
