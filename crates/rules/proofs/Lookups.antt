@@ -58,12 +58,12 @@ module _ (tables : Tables) where
       rest = cond (eqb size 64) whole (unclear 8)
 
       by-size : Named
-      by-size = cond (eqb size 32) (functionAt tables home (pos address +ℤ slotsOn tables immediate)) rest
+      by-size = cond (eqb size 32) (functionAt tables home (pos address +ℤ slotsOn immediate)) rest
 
       sized : NamesRow n by-size
       sized =
-          names-cond (eqb size 32) (functionAt tables home (pos address +ℤ slotsOn tables immediate)) rest
-          (function-names home (pos address +ℤ slotsOn tables immediate))
+          names-cond (eqb size 32) (functionAt tables home (pos address +ℤ slotsOn immediate)) rest
+          (function-names home (pos address +ℤ slotsOn immediate))
           (names-cond (eqb size 64) whole (unclear 8) (function-names home (pos address +ℤ immediate)) tt)
   symbol-names other none address size immediate = tt
   symbol-names other (some home) address size immediate = names-cond (isCode tables home) (unclear 8) nothing tt tt
@@ -74,7 +74,7 @@ module _ (tables : Tables) where
 
   relocation-names : (r : Option Relocation) (f : Function) (slot : ℕ) (i : Insn) → NamesRow n (byRelocation tables r f slot i)
   relocation-names none f slot i =
-      let address = pos (f .offset + 8 * slot) +ℤ slotsOn tables (i .immediate) in
+      let address = pos (f .offset + 8 * slot) +ℤ slotsOn (i .immediate) in
       names-cond (isCall i) (functionAt tables (f .home) address) nothing (function-names (f .home) address) tt
   relocation-names (some r) f slot i = symbol-row-names (first (λ s. eqb (s .index) (r .symbol)) (tables .symbols)) (r .size) (i .immediate)
 

@@ -102,6 +102,10 @@ before count zero fs = 0
 before count (suc row) [] = 0
 before count (suc row) (f ∷ fs) = count f + before count row fs
 
+-- "8 × (immediate + 1)"
+abbrev pub slotsOn : ℤ → ℤ
+slotsOn immediate = pos 8 *ℤ (immediate +ℤ pos 1)
+
 module _ (tables : Tables) where
   abbrev pub rowOf : ℕ → Function
   rowOf row = getD (tables .functions) row noFunction
@@ -129,10 +133,6 @@ module _ (tables : Tables) where
 
   abbrev pub isCode : ℕ → Bool
   isCode home = isSome (first (eqb home) (tables .code))
-
-  -- "8 × (immediate + 1)"
-  abbrev pub slotsOn : ℤ → ℤ
-  slotsOn immediate = pos 8 *ℤ (immediate +ℤ pos 1)
 
   -- "It refers to code if the kind is Text or its section is in table 1. ... Text without section gives 8; Text targets the address; Section
   -- with size 32 targets address + 8 × (immediate + 1), with size 64 address + immediate; anything else 8"
