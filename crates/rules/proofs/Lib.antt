@@ -14,6 +14,7 @@ pub mod Rounds
 pub mod Searches
 pub mod Passed
 pub mod Refusing
+pub mod Reading
 pub mod Lookups
 pub mod Invariant
 pub mod Limits

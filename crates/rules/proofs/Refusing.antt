@@ -14,7 +14,7 @@ use Rattle.rules.specs.declared.Table.{Table}
 use Rattle.rules.specs.declared.Table.the-variants.{Code, Symbols, Functions, Relocations, Maps, Instructions, FuncInfo, LineInfo}
 use Rattle.rules.specs.Answers.{Reply, reply}
 use Rattle.rules.specs.Rows.{rowSize, tableNumber, wholeRows, isTooMany, Offered, bytesOf, mapStepTables, linkTables, total, tooMany, wrongTotal, brokenIn, orBroken, broken, orElse, orDone, noRoot, mapStepRefusal, linkRefusal}
-use Rattle.rules.specs.Lookups.{Sound}
+use Rattle.rules.specs.Lookups.{Sound, Checked, MapChecked, LinkChecked}
 
 -- a refusal's number is not 0
 abbrev Refuses : Option Reply → Type 0
@@ -118,81 +118,56 @@ module _ (o : Offered) where
       go true f e = eqb-true _ _ f
       go false f e = let z : _≡_ {A = ℕ} 0 1 = cc in absurd (omega arith)
 
--- tables that the map step, or the link, has checked
-pub record MapSound (o : Offered) : Type 0 where
-  pub code : Sound Code (o .code)
-  pub symbols : Sound Symbols (o .symbols)
-  pub functions : Sound Functions (o .functions)
-  pub relocations : Sound Relocations (o .relocations)
-  pub maps : Sound Maps (o .maps)
-  pub few : isTooMany Instructions (o .instructions) ≡ false
-  pub instructions : length (o .instructions) ≡ rowSize Instructions * total Instructions (o .functions)
-
-pub record LinkSound (o : Offered) (root : ℕ) : Type 0 where
-  pub code : Sound Code (o .code)
-  pub symbols : Sound Symbols (o .symbols)
-  pub functions : Sound Functions (o .functions)
-  pub relocations : Sound Relocations (o .relocations)
-  pub few-instructions : isTooMany Instructions (o .instructions) ≡ false
-  pub few-functions : isTooMany FuncInfo (o .funcInfo) ≡ false
-  pub few-lines : isTooMany LineInfo (o .lineInfo) ≡ false
-  pub instructions : length (o .instructions) ≡ rowSize Instructions * total Instructions (o .functions)
-  pub funcInfo : length (o .funcInfo) ≡ rowSize FuncInfo * total FuncInfo (o .functions)
-  pub lineInfo : length (o .lineInfo) ≡ rowSize LineInfo * total LineInfo (o .functions)
-  pub root-row : root < wholeRows Functions (o .functions)
-
 at0 : {x : Table} {xs : List Table} → List·Memᴰ x (x ∷ xs)
 at0 = List·Memᴰ·head refl
 
-pub map-sound : (o : Offered) → mapStepRefusal o ≡ none → MapSound o
+at4 : {x a b c d : Table} {xs : List Table} → List·Memᴰ x (a ∷ b ∷ c ∷ d ∷ x ∷ xs)
+at4 = List·Memᴰ·tail (List·Memᴰ·tail (List·Memᴰ·tail (List·Memᴰ·tail at0)))
+
+-- tables 1 to 4 are the first given, and table 6 is among the rest
+module _ (o : Offered) (rest : List Table) (few : (t : Table) → List·Memᴰ t (Code ∷ Symbols ∷ Functions ∷ Relocations ∷ rest) → isTooMany t (bytesOf o t) ≡ false)
+    (ok : (t : Table) → List·Memᴰ t (Code ∷ Symbols ∷ Functions ∷ Relocations ∷ rest) → brokenIn t o ≡ none) (m : List·Memᴰ Instructions (Code ∷ Symbols ∷ Functions ∷ Relocations ∷ rest)) where
+  checked : Checked o
+  unfolding brokenIn
+  checked = record {
+    code = record { few = few Code at0; unbroken = ok Code at0 };
+    symbols = record { few = few Symbols (List·Memᴰ·tail at0); unbroken = ok Symbols (List·Memᴰ·tail at0) };
+    functions = record { few = few Functions (List·Memᴰ·tail (List·Memᴰ·tail at0)); unbroken = ok Functions (List·Memᴰ·tail (List·Memᴰ·tail at0)) };
+    relocations = record {
+      few = few Relocations (List·Memᴰ·tail (List·Memᴰ·tail (List·Memᴰ·tail at0)));
+      unbroken = ok Relocations (List·Memᴰ·tail (List·Memᴰ·tail (List·Memᴰ·tail at0)));
+    };
+    few = few Instructions m;
+    instructions = exact o Instructions (ok Instructions m);
+  }
+
+pub map-checked : (o : Offered) → mapStepRefusal o ≡ none → MapChecked o
 unfolding mapStepRefusal brokenIn
-map-sound o e =
+map-checked o e =
     let p = or-none (tooMany o mapStepTables) (broken o mapStepTables) e in
     let few = all-few o mapStepTables (p .0) in
     let ok = all-whole o mapStepTables (p .1) in
     record {
-      code = record { few = few Code at0; unbroken = ok Code at0 };
-      symbols = record { few = few Symbols (List·Memᴰ·tail at0); unbroken = ok Symbols (List·Memᴰ·tail at0) };
-      functions = record { few = few Functions (List·Memᴰ·tail (List·Memᴰ·tail at0)); unbroken = ok Functions (List·Memᴰ·tail (List·Memᴰ·tail at0)) };
-      relocations = record {
-        few = few Relocations (List·Memᴰ·tail (List·Memᴰ·tail (List·Memᴰ·tail at0)));
-        unbroken = ok Relocations (List·Memᴰ·tail (List·Memᴰ·tail (List·Memᴰ·tail at0)));
-      };
-      maps = record {
-        few = few Maps (List·Memᴰ·tail (List·Memᴰ·tail (List·Memᴰ·tail (List·Memᴰ·tail at0))));
-        unbroken = ok Maps (List·Memᴰ·tail (List·Memᴰ·tail (List·Memᴰ·tail (List·Memᴰ·tail at0))));
-      };
-      few = few Instructions (List·Memᴰ·tail (List·Memᴰ·tail (List·Memᴰ·tail (List·Memᴰ·tail (List·Memᴰ·tail at0)))));
-      instructions = exact o Instructions (ok Instructions (List·Memᴰ·tail (List·Memᴰ·tail (List·Memᴰ·tail (List·Memᴰ·tail (List·Memᴰ·tail at0))))));
+      tables = checked o (Maps ∷ Instructions ∷ []) few ok (List·Memᴰ·tail at4);
+      maps = record { few = few Maps at4; unbroken = ok Maps at4 };
     }
 
-pub link-sound : (o : Offered) (root : ℕ) → linkRefusal o root ≡ none → LinkSound o root
+pub link-checked : (o : Offered) (root : ℕ) → linkRefusal o root ≡ none → LinkChecked o root
 unfolding linkRefusal brokenIn
-link-sound o root e =
+link-checked o root e =
     let p = or-none (tooMany o linkTables) (orElse (broken o linkTables) (noRoot o root)) e in
     let q = or-none (broken o linkTables) (noRoot o root) (p .1) in
     let few = all-few o linkTables (p .0) in
     let ok = all-whole o linkTables (q .0) in
     record {
-      code = record { few = few Code at0; unbroken = ok Code at0 };
-      symbols = record { few = few Symbols (List·Memᴰ·tail at0); unbroken = ok Symbols (List·Memᴰ·tail at0) };
-      functions = record { few = few Functions (List·Memᴰ·tail (List·Memᴰ·tail at0)); unbroken = ok Functions (List·Memᴰ·tail (List·Memᴰ·tail at0)) };
-      relocations = record {
-        few = few Relocations (List·Memᴰ·tail (List·Memᴰ·tail (List·Memᴰ·tail at0)));
-        unbroken = ok Relocations (List·Memᴰ·tail (List·Memᴰ·tail (List·Memᴰ·tail at0)));
-      };
-      few-instructions = few Instructions at4;
+      tables = checked o (Instructions ∷ FuncInfo ∷ LineInfo ∷ []) few ok at4;
       few-functions = few FuncInfo (List·Memᴰ·tail at4);
       few-lines = few LineInfo (List·Memᴰ·tail (List·Memᴰ·tail at4));
-      instructions = exact o Instructions (ok Instructions at4);
       funcInfo = exact o FuncInfo (ok FuncInfo (List·Memᴰ·tail at4));
       lineInfo = exact o LineInfo (ok LineInfo (List·Memᴰ·tail (List·Memᴰ·tail at4)));
       root-row = root-below (ltb root (wholeRows Functions (o .functions))) refl (q .1);
     }
   where
-    at4 : {x a b c d : Table} {xs : List Table} → List·Memᴰ x (a ∷ b ∷ c ∷ d ∷ x ∷ xs)
-    at4 = List·Memᴰ·tail (List·Memᴰ·tail (List·Memᴰ·tail (List·Memᴰ·tail at0)))
-
     root-below : (b : Bool) → ltb root (wholeRows Functions (o .functions)) ≡ b → cond b none (some (reply 13 0 0 0)) ≡ none → root < wholeRows Functions (o .functions)
     root-below true f e = ltb-true _ _ f
     root-below false f e = let z : _≡_ {A = ℕ} 0 1 = cc in absurd (omega arith)

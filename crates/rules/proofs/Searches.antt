@@ -120,6 +120,15 @@ module _ (count : ℕ → ℕ) where
       let q : summed count 0 (suc n) ≡ summed count 0 n + count n = ap (summed count 0) (sym (add-one n)) ∙ e in
       omega (arith, mul-suc most n)
 
+-- a row's part is inside the whole
+pub part-inside : (count : ℕ → ℕ) (n row : ℕ) → row < n → summed count 0 row + count row ≤ summed count 0 n
+part-inside count zero row l = absurd (omega arith)
+part-inside count (suc n) row l =
+    let e : summed count 0 (suc n) ≡ summed count 0 n + count n = ap (summed count 0) (sym (add-one n)) ∙ summed-step count n in
+    ⊎-elim (λ (same : suc row ≡ suc n). let m : row ≡ n = omega arith in rw m (omega (arith, e)))
+    (λ (less : suc row < suc n). omega (arith, part-inside count n row (omega arith), e))
+    (eq-or-lt-of-le l)
+
 pub before-run : (f : ℕ → Function) (count : Function → ℕ) (from n row : ℕ) → row ≤ n → before count row (run f from n) ≡ summed (λ k. count (f k)) from row
 before-run f count from n zero l = refl
 before-run f count from zero (suc row) l = absurd (omega arith)

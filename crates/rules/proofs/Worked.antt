@@ -13,7 +13,7 @@ use Rattle.rules.specs.Link.{visit, append, link}
 use Rattle.rules.specs.Bytes.{little, u16At, u32At, u64At, bytes4, signed, unsigned, decode, encode, decoded, encoded, padded}
 use Rattle.rules.specs.Answers.{Reply, reply}
 use Rattle.rules.specs.Tables.{objectOf}
-use Rattle.rules.specs.Records.{imageFunctions, imageLines, admits, rootAdmits, linkStep}
+use Rattle.rules.specs.Records.{imageFunctions, imageLines, roomFor, strayLine, admits, linkStep}
 use Rattle.rules.specs.Maps.{judge, firstRefusal, applied, rewriteAll, mapStep}
 use Rattle.rules.specs.Rows.{noneNumber, Offered, codeSection, symbolIndex, symbolSection, symbolAddress, symbolKind, functionSection, functionSlots, functionAddress, functionOffset, functionFuncInfo, functionLineInfo, relocationSection, relocationSymbol, relocationOffset, relocationSize, mapSection, mapSymbol, mapFd, mapHasData, recordSlot, recordType, recordFile, recordLine, recordColumn, isGood, firstBroken, total, tooMany, brokenIn, broken, mapStepRefusal, linkRefusal, tablesOf}
 use Rattle.rules.specs.Entries.{MapResult, mapEntry, Outputs, LinkResult, linkEntry}
@@ -239,7 +239,7 @@ pub worked : (
     ∷ seen (reply 0 44 16 191) []
     ∷ [])
 unfolding isCall isBlank isWideLoad decide meaning displacement calling referring visit append link
-    u16At u32At u64At signed unsigned decode encode decoded encoded padded objectOf imageFunctions imageLines admits rootAdmits linkStep
+    u16At u32At u64At signed unsigned decode encode decoded encoded padded objectOf imageFunctions imageLines roomFor strayLine admits linkStep
     judge firstRefusal applied rewriteAll mapStep codeSection symbolIndex symbolSection symbolAddress symbolKind functionSection functionSlots functionAddress functionOffset functionFuncInfo functionLineInfo relocationSection relocationSymbol relocationOffset relocationSize mapSection mapSymbol mapFd mapHasData recordSlot recordType recordFile recordLine recordColumn
     isGood firstBroken total tooMany brokenIn broken mapStepRefusal linkRefusal tablesOf mapEntry linkEntry kind
 worked = refl

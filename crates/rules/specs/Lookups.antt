@@ -5,16 +5,17 @@ use mathlib.Core.Logic.{_⊎_}
 use mathlib.Core.Bool.{Bool, true, false, cond, not, _&&_, _||_}
 use mathlib.Core.Option.{Option, none, some}
 use mathlib.Core.List.{List}
-use Prim.Native.Nat.{ℕ, _<_}
+use Prim.Native.Nat.{ℕ, _*_, _<_}
 use lib.IntN.{ℤ}
 use lib.Dec.{eqb}
+use lib.ListN.{length}
 use Rattle.rules.specs.declared.Table.{Table}
-use Rattle.rules.specs.declared.Table.the-variants.{Code, Symbols, Functions, Relocations, Maps}
+use Rattle.rules.specs.declared.Table.the-variants.{Code, Symbols, Functions, Relocations, Maps, Instructions, FuncInfo, LineInfo}
 use Rattle.rules.specs.declared.Found.{Found}
 use Rattle.rules.specs.declared.Found.the-variants.{At, Nothing}
 use Rattle.rules.specs.Tables.{isAt, isSome}
 use Rattle.rules.specs.Maps.{isSymbol, hasNone}
-use Rattle.rules.specs.Rows.{wholeRows, isTooMany, firstBroken, firstFrom, codeSection, symbolIndex, functionSection, functionAddress, relocationSection, relocationOffset, mapSection, mapSymbol, orNone, noneNumber}
+use Rattle.rules.specs.Rows.{rowSize, Offered, total, below, wholeRows, isTooMany, firstBroken, firstFrom, codeSection, symbolIndex, functionSection, functionAddress, relocationSection, relocationOffset, mapSection, mapSymbol, orNone, noneNumber}
 
 abbrev pub foundOf : Option ℕ → Found
 foundOf none = Nothing
@@ -24,6 +25,28 @@ foundOf (some k) = At k
 pub record Sound (table : Table) (t : List ℕ) : Type 0 where
   pub few : isTooMany table t ≡ false
   pub unbroken : firstBroken table t ≡ none
+
+-- tables that both steps stand on, checked
+pub record Checked (o : Offered) : Type 0 where
+  pub code : Sound Code (o .code)
+  pub symbols : Sound Symbols (o .symbols)
+  pub functions : Sound Functions (o .functions)
+  pub relocations : Sound Relocations (o .relocations)
+  pub few : isTooMany Instructions (o .instructions) ≡ false
+  pub instructions : length (o .instructions) ≡ rowSize Instructions * total Instructions (o .functions)
+
+-- what the map step, and the link, have checked
+pub record MapChecked (o : Offered) : Type 0 where
+  pub tables : Checked o
+  pub maps : Sound Maps (o .maps)
+
+pub record LinkChecked (o : Offered) (root : ℕ) : Type 0 where
+  pub tables : Checked o
+  pub few-functions : isTooMany FuncInfo (o .funcInfo) ≡ false
+  pub few-lines : isTooMany LineInfo (o .lineInfo) ≡ false
+  pub funcInfo : length (o .funcInfo) ≡ rowSize FuncInfo * total FuncInfo (o .functions)
+  pub lineInfo : length (o .lineInfo) ≡ rowSize LineInfo * total LineInfo (o .functions)
+  pub root-row : root < wholeRows Functions (o .functions)
 
 -- is a section in table 1
 unfoldable pub isCodeSection : List ℕ → ℕ → Bool
@@ -40,6 +63,15 @@ functionWith t home address = firstFrom (λ k. eqb (functionSection t k) home &&
 -- the relocation of that section at that offset
 unfoldable pub relocationWith : List ℕ → ℕ → ℕ → Option ℕ
 relocationWith t home offset = firstFrom (λ k. eqb (relocationSection t k) home && eqb (relocationOffset t k) offset) 0 (wholeRows Relocations t)
+
+-- how many relocations stand before (home, offset): the first row at or after it, or their count
+abbrev pub orEnd : Option ℕ → ℕ → ℕ
+orEnd none end = end
+orEnd (some k) end = k
+
+unfoldable pub relocationsBefore : List ℕ → ℕ → ℕ → ℕ
+relocationsBefore t home offset =
+    orEnd (firstFrom (λ k. not (below (relocationSection t k) (relocationOffset t k) home offset)) 0 (wholeRows Relocations t)) (wholeRows Relocations t)
 
 -- "the map with that symbol, else the map of that section without a symbol"
 unfoldable pub mapWithSymbol : List ℕ → ℕ → Option ℕ

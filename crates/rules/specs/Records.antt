@@ -48,28 +48,32 @@ module _ (tables : Tables) where
   unfoldable pub imageLines : ℕ → List Piece → List LineRecord
   imageLines root placed = linesOf tables root ++ addedLines placed
 
-  abbrev pub orStray : Option ℕ → ℕ → Option Refusal
-  orStray none row = none
-  orStray (some k) row = some (refusal 12 row k)
-
-  -- "Appending needs room for instructions, function records, line records (11 each, in the buffer and under the limit), then 12"
-  unfoldable pub admits : Room → ℕ → ℕ → State → Option Refusal
-  admits room root row state =
-      cond (leb (length (state .image) + rowOf tables row .slots) (room .slots))
-      (cond (leb (length (imageFunctions root (state .placed)) + length (functionRecordsOf tables row)) (room .functions))
-      (cond (leb (length (imageLines root (state .placed)) + length (linesOf tables row)) (room .lines))
-      (orStray (stray (rowOf tables row .slots) (firstSlot (linesOf tables row)) 0 (linesOf tables row)) row)
-      (some (refusal 11 row 0)))
+  -- "room for instructions, function records, line records (11 each, in the buffer and under the limit)", with as many there already
+  unfoldable pub roomFor : Room → ℕ → ℕ → ℕ → ℕ → Option Refusal
+  roomFor room slots functions lines row =
+      cond (leb (slots + rowOf tables row .slots) (room .slots))
+      (cond (leb (functions + length (functionRecordsOf tables row)) (room .functions))
+      (cond (leb (lines + length (linesOf tables row)) (room .lines)) none (some (refusal 11 row 0)))
       (some (refusal 11 row 0)))
       (some (refusal 11 row 0))
 
+  -- the line record of that function that 12 refuses
+  unfoldable pub strayLine : ℕ → Option ℕ
+  strayLine row = stray (rowOf tables row .slots) (firstSlot (linesOf tables row)) 0 (linesOf tables row)
+
+  abbrev pub thenStray : Option Refusal → Option ℕ → ℕ → Option Refusal
+  thenStray (some why) k row = some why
+  thenStray none (some k) row = some (refusal 12 row k)
+  thenStray none none row = none
+
+  -- "Appending needs room ..., then 12"
+  unfoldable pub admits : Room → ℕ → ℕ → State → Option Refusal
+  admits room root row state =
+      thenStray (roomFor room (length (state .image)) (length (imageFunctions root (state .placed))) (length (imageLines root (state .placed))) row) (strayLine row) row
+
   -- "The root needs room too, but its records meet no 12"
-  unfoldable pub rootAdmits : Room → ℕ → Option Refusal
-  rootAdmits room root =
-      cond (leb (rowOf tables root .slots) (room .slots) && leb (length (functionRecordsOf tables root)) (room .functions)
-      && leb (length (linesOf tables root)) (room .lines))
-      none
-      (some (refusal 11 root 0))
+  abbrev pub rootAdmits : Room → ℕ → Option Refusal
+  rootAdmits room root = roomFor room 0 0 0 root
 
   unfoldable pub linkStep : Room → ℕ → Outcome
   linkStep room root = link (objectOf tables) (admits room root) (rootAdmits room root) root
