@@ -15,6 +15,7 @@ pub mod Searches
 pub mod Passed
 pub mod Refusing
 pub mod Reading
+pub mod Merging
 pub mod Lookups
 pub mod Invariant
 pub mod Limits

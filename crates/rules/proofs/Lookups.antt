@@ -78,6 +78,10 @@ module _ (tables : Tables) where
       names-cond (isCall i) (functionAt tables (f .home) address) nothing (function-names (f .home) address) tt
   relocation-names (some r) f slot i = symbol-row-names (first (λ s. eqb (s .index) (r .symbol)) (tables .symbols)) (r .size) (i .immediate)
 
-  pub tables-finish : (admits : ℕ → State → Option Refusal) (rootRefusal : Option Refusal) (root : ℕ) → Finished (link (objectOf tables) admits rootRefusal root)
+  -- whatever a slot names is a row
+  pub names-rows : (row slot : ℕ) → NamesRow (objectOf tables .rows) (objectOf tables .named row slot)
   unfolding objectOf n
-  tables-finish admits rootRefusal root = never-unfinished (objectOf tables) (λ row slot. relocation-names (relocationAt tables (rowOf tables row) slot) (rowOf tables row) slot (insnOf tables row slot)) admits rootRefusal root
+  names-rows row slot = relocation-names (relocationAt tables (rowOf tables row) slot) (rowOf tables row) slot (insnOf tables row slot)
+
+  pub tables-finish : (admits : ℕ → State → Option Refusal) (rootRefusal : Option Refusal) (root : ℕ) → Finished (link (objectOf tables) admits rootRefusal root)
+  tables-finish admits rootRefusal root = never-unfinished (objectOf tables) names-rows admits rootRefusal root

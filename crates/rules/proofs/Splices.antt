@@ -7,8 +7,17 @@ use native.Mathlib.Omega.{arith}
 use native.Mathlib.Nat.{add-zero}
 use native.Mathlib.Numerals.{add-one}
 use lib.ListN.{length, replicate, getD, take, drop, set, length-append, length-take, length-drop, length-replicate, List·getD-append}
-use lib.Seq.{drop-length, length-take-le, getD-append-add, getD-take, getD-drop, take-at, drop-at, sets, sets-eq, paste, paste-suc}
+use lib.Seq.{take-nil, drop-drop, take-take, take-append-add, drop-length, length-take-le, getD-append-add, getD-take, getD-drop, take-at, drop-at, sets, sets-eq, paste, paste-suc}
 use Rattle.rules.specs.Bytes.{splice, zeroAfter, padded}
+
+-- a part's part
+drop-take : (k n : ℕ) (d : List ℕ) → k ≤ n → drop k (take n d) ≡ take (n - k) (drop k d)
+drop-take zero n d l = let e : n ≡ n - 0 = omega arith in ap (λ m. take m d) e
+drop-take (suc k) (suc n) [] l = sym (take-nil (suc n - suc k))
+drop-take (suc k) (suc n) (x ∷ d) l =
+    let e : n - k ≡ suc n - suc k = omega arith in
+    drop-take k n d (omega arith) ∙ ap (λ m. take m (drop k d)) e
+drop-take (suc k) zero d l = absurd (omega arith)
 
 module _ (d : List ℕ) (p : ℕ) (vs : List ℕ) (fits : p + length vs ≤ length d) where
   front : length (take p d) ≡ p
@@ -57,6 +66,36 @@ module _ (d : List ℕ) (p : ℕ) (vs : List ℕ) (fits : p + length vs ≤ leng
   splice-past k h =
       let e : p + length vs + (k - (p + length vs)) ≡ k = omega arith in
       subst (λ (n : ℕ). getD (splice d p vs) n 0 ≡ getD d n 0) e (splice-after (k - (p + length vs)))
+
+-- ---- a splice and the parts of a list
+module _ (d : List ℕ) (p : ℕ) (vs : List ℕ) (n : ℕ) where
+  -- up to the end of what was put
+  pub splice-front : p + length vs ≡ n → p ≤ length d → take n (splice d p vs) ≡ take p d ++ vs
+  unfolding splice
+  splice-front e l =
+      take-at (take p d ++ vs) (drop (p + length vs) d) n (simp (length-append, length-take-le p d l) e)
+
+  -- past it
+  pub splice-rest : p + length vs ≤ n → p + length vs ≤ length d → drop n (splice d p vs) ≡ drop n d
+  splice-rest l m =
+      let e : p + length vs + (n - (p + length vs)) ≡ n = omega arith in
+      ap (λ k. drop k (splice d p vs)) (sym e)
+      ∙ sym (drop-drop (n - (p + length vs)) (p + length vs) (splice d p vs))
+      ∙ ap (drop (n - (p + length vs))) (splice-drop d p vs m)
+      ∙ drop-drop (n - (p + length vs)) (p + length vs) d
+      ∙ ap (λ k. drop k d) e
+
+  -- inside a front
+  pub splice-within : p + length vs ≤ n → n ≤ length d → take n (splice d p vs) ≡ splice (take n d) p vs
+  unfolding splice
+  splice-within l m =
+      ap (λ k. take k ((take p d ++ vs) ++ drop (p + length vs) d)) (sym e)
+      ∙ take-append-add (take p d ++ vs) (drop (p + length vs) d) (n - (p + length vs))
+      ∙ ap (λ x. x ++ vs ++ take (n - (p + length vs)) (drop (p + length vs) d)) (sym (take-take p n d (omega arith)))
+      ∙ ap (λ x. take p (take n d) ++ vs ++ x) (sym (drop-take (p + length vs) n d (omega arith)))
+    where
+      e : length (take p d ++ vs) + (n - (p + length vs)) ≡ n
+      e = simp (length-append, length-take-le p d (omega arith)) (omega arith)
 
 -- the other writer's law: a copy of n elements is a splice of them
 pub paste-splice : (d : List ℕ) (p : ℕ) (s : List ℕ) (n : ℕ) → n ≤ length s → paste d p s n ≡ splice d p (take n s)

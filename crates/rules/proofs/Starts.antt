@@ -24,7 +24,7 @@ orNone (some start) = start
 abbrev pub starts : ℕ → List Piece → List ℕ
 starts rows placed = run (λ row. orNone (startOf row placed)) 0 rows
 
-start-now : (row start : ℕ) (ps : List Piece) → startOf row ps ≡ none → startOf row (ps ++ (piece row start ∷ [])) ≡ some start
+pub start-now : (row start : ℕ) (ps : List Piece) → startOf row ps ≡ none → startOf row (ps ++ (piece row start ∷ [])) ≡ some start
 start-now row start [] e = rw (eq-eqb row row refl) refl
 start-now row start (p ∷ ps) e = go (eqb (p .row) row) e (start-now row start ps)
   where
@@ -33,7 +33,7 @@ start-now row start (p ∷ ps) e = go (eqb (p .row) row) e (start-now row start 
     go true e later = let z : _≡_ {A = ℕ} 0 1 = cc in absurd (omega arith)
     go false e later = later e
 
-start-other : (k row start : ℕ) (ps : List Piece) → row ≢ k → startOf k (ps ++ (piece row start ∷ [])) ≡ startOf k ps
+pub start-other : (k row start : ℕ) (ps : List Piece) → row ≢ k → startOf k (ps ++ (piece row start ∷ [])) ≡ startOf k ps
 start-other k row start [] n = rw (ne-eqb row k n) refl
 start-other k row start (p ∷ ps) n = ap (cond (eqb (p .row) k) (some (p .start))) (start-other k row start ps n)
 

@@ -1,0 +1,3 @@
+// The rows of the tables: their fields, and the row that a number names.
+pub mod fields;
+pub mod find;
