@@ -1,0 +1,164 @@
+// Readers of .BTF.ext data: function and line records as rows, and record k as a part of the caller's bytes.
+use rules::Answer;
+use rules::Table;
+use wire::copy;
+use wire::put_u32;
+use wire::u32_at;
+use wire::wipe;
+ghost use mathlib.Core.Path.{_≡_};
+ghost use Prim.Native.Nat.{_*_, _≤_};
+ghost use lib.ListN.{length};
+ghost use Rattle.rules.specs.Bytes.{little, padded};
+ghost use Rattle.rules.specs.Answers.{replyOf};
+ghost use Rattle.rules.specs.Rows.{rowSize};
+ghost use Rattle.rules.specs.Readers.{onGrid, isWhole, rowsOfRecords, recordPart, recordReply};
+ghost use Rattle.rules.specs.declared.Table.{Table};
+ghost use Rattle.rules.specs.declared.Table.the-variants.{FuncInfo, LineInfo};
+ghost use Rattle.info.specs.Promises.{given, ReadAs, Ready};
+
+fn row_size(table: Table) -> usize
+    ensures { λ r. ⌜ (r ≡ rowSize table) × ((4 ≤ r) × (r ≤ 32)) ⌝ }
+{
+    match table {
+        Table::Code => 4,
+        Table::Symbols => 24,
+        Table::Functions => 32,
+        Table::Relocations => 24,
+        Table::Maps => 16,
+        Table::Instructions => 8,
+        Table::FuncInfo => 8,
+        Table::LineInfo => 16,
+    }
+}
+
+fn on_grid(size: usize, count: usize, bytes: &[u8]) -> bool
+    requires { ⌜ (4 ≤ size) × (count * size ≡ length (now bytes)) ⌝ }
+    ensures { λ r. ⌜ r ≡ onGrid little (given size count (now (bytes .entry))) 0 count ⌝ }
+{
+    let mut at = 0;
+    let mut k = 0;
+    while k < count {
+        if u32_at(bytes, at) % 8 != 0 {
+            return false;
+        }
+        at += size;
+        k += 1;
+    }
+    true
+}
+
+// No 14: a u32 times a u32 is a u64.
+fn is_whole(table: Table, size: u32, count: u32, bytes: &[u8]) -> bool
+    ensures { λ r. ⌜ r ≡ isWhole little table (given size count (now (bytes .entry))) ⌝ }
+{
+    let each = size as usize;
+    let n = count as usize;
+    if each < row_size(table) {
+        return false;
+    }
+    if n * each != bytes.len() {
+        return false;
+    }
+    on_grid(each, n, bytes)
+}
+
+// Row k is written after the rows before it; the tail of a record that is longer than a row is passed over.
+fn put_rows(row: usize, size: usize, count: usize, bytes: &[u8], out: &mut [u8])
+    requires { ⌜ Ready row size count (now bytes) (now out) ⌝ }
+    ensures { λ _. ⌜ ((table : Table) → row ≡ rowSize table → now (out .exit) ≡ padded (length (now (out .entry))) (rowsOfRecords little table (given size count (now (bytes .entry))) 0 count)) ⌝ }
+{
+    let mut from = 0;
+    let mut to = 0;
+    let mut k = 0;
+    while k < count {
+        put_u32(out, to, u32_at(bytes, from) / 8);
+        copy(out, to + 4, bytes, from + 4, row - 4);
+        from += size;
+        to += row;
+        k += 1;
+    }
+}
+
+fn read_records(table: Table, size: u32, count: u32, bytes: &[u8], out: &mut [u8]) -> Answer
+    ensures { λ r. ⌜ ReadAs table (given size count (now (bytes .entry))) (now (out .entry)) (now (out .exit)) r ⌝ }
+{
+    wipe(out);
+    if !is_whole(table, size, count, bytes) {
+        return Answer::BrokenInfo;
+    }
+    let row = row_size(table);
+    let n = count as usize;
+    if out.len() < n * row {
+        return Answer::NoRoom(0);
+    }
+    put_rows(row, size as usize, n, bytes, out);
+    Answer::Done(count, 0, 0)
+}
+
+// struct bpf_func_info { insn_off, type_id } (kernel page on BTF, 4.2 .BTF.ext section): rows of slot and type.
+pub fn func_info(size: u32, count: u32, bytes: &[u8], out: &mut [u8]) -> Answer
+    ensures { λ r. ⌜ ReadAs FuncInfo (given size count (now (bytes .entry))) (now (out .entry)) (now (out .exit)) r ⌝ }
+{
+    read_records(Table::FuncInfo, size, count, bytes, out)
+}
+
+// struct bpf_line_info { insn_off, file_name_off, line_off, line_col } (the same section): rows of slot, file, line and column.
+pub fn line_info(size: u32, count: u32, bytes: &[u8], out: &mut [u8]) -> Answer
+    ensures { λ r. ⌜ ReadAs LineInfo (given size count (now (bytes .entry))) (now (out .entry)) (now (out .exit)) r ⌝ }
+{
+    read_records(Table::LineInfo, size, count, bytes, out)
+}
+
+fn record<'a>(table: Table, size: u32, count: u32, bytes: &'a [u8], k: u32) -> &'a [u8]
+    ensures { λ r. ⌜ now r ≡ recordPart little table (given size count (now (bytes .entry))) k ⌝ }
+{
+    if !is_whole(table, size, count, bytes) {
+        return &bytes[0..0];
+    }
+    if k >= count {
+        return &bytes[0..0];
+    }
+    let at = (size as usize) * (k as usize);
+    let end = at + size as usize;
+    &bytes[at..end]
+}
+
+fn record_number(table: Table, size: u32, count: u32, bytes: &[u8], k: u32) -> Answer
+    ensures { λ r. ⌜ replyOf r ≡ recordReply little table (given size count (now (bytes .entry))) k ⌝ }
+{
+    if !is_whole(table, size, count, bytes) {
+        return Answer::BrokenInfo;
+    }
+    if k >= count {
+        return Answer::BrokenInfo;
+    }
+    Answer::Done(count, 0, 0)
+}
+
+// Record k of struct bpf_func_info, its tail included; empty where the data is refused or has no record k.
+pub fn func_info_record<'a>(size: u32, count: u32, bytes: &'a [u8], k: u32) -> &'a [u8]
+    ensures { λ r. ⌜ now r ≡ recordPart little FuncInfo (given size count (now (bytes .entry))) k ⌝ }
+{
+    record(Table::FuncInfo, size, count, bytes, k)
+}
+
+// The same of struct bpf_line_info.
+pub fn line_info_record<'a>(size: u32, count: u32, bytes: &'a [u8], k: u32) -> &'a [u8]
+    ensures { λ r. ⌜ now r ≡ recordPart little LineInfo (given size count (now (bytes .entry))) k ⌝ }
+{
+    record(Table::LineInfo, size, count, bytes, k)
+}
+
+// The number of what `func_info_record` gives.
+pub fn func_info_record_number(size: u32, count: u32, bytes: &[u8], k: u32) -> Answer
+    ensures { λ r. ⌜ replyOf r ≡ recordReply little FuncInfo (given size count (now (bytes .entry))) k ⌝ }
+{
+    record_number(Table::FuncInfo, size, count, bytes, k)
+}
+
+// The number of what `line_info_record` gives.
+pub fn line_info_record_number(size: u32, count: u32, bytes: &[u8], k: u32) -> Answer
+    ensures { λ r. ⌜ replyOf r ≡ recordReply little LineInfo (given size count (now (bytes .entry))) k ⌝ }
+{
+    record_number(Table::LineInfo, size, count, bytes, k)
+}
