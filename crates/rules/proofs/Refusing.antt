@@ -152,22 +152,30 @@ map-checked o e =
       maps = record { few = few Maps at4; unbroken = ok Maps at4 };
     }
 
-pub link-checked : (o : Offered) (root : ℕ) → linkRefusal o root ≡ none → LinkChecked o root
-unfolding linkRefusal brokenIn
-link-checked o root e =
-    let p = or-none (tooMany o linkTables) (orElse (broken o linkTables) (noRoot o root)) e in
-    let q = or-none (broken o linkTables) (noRoot o root) (p .1) in
-    let few = all-few o linkTables (p .0) in
-    let ok = all-whole o linkTables (q .0) in
-    record {
-      tables = checked o (Instructions ∷ FuncInfo ∷ LineInfo ∷ []) few ok at4;
-      few-functions = few FuncInfo (List·Memᴰ·tail at4);
-      few-lines = few LineInfo (List·Memᴰ·tail (List·Memᴰ·tail at4));
-      funcInfo = exact o FuncInfo (ok FuncInfo (List·Memᴰ·tail at4));
-      lineInfo = exact o LineInfo (ok LineInfo (List·Memᴰ·tail (List·Memᴰ·tail at4)));
-      root-row = root-below (ltb root (wholeRows Functions (o .functions))) refl (q .1);
-    }
-  where
-    root-below : (b : Bool) → ltb root (wholeRows Functions (o .functions)) ≡ b → cond b none (some (reply 13 0 0 0)) ≡ none → root < wholeRows Functions (o .functions)
-    root-below true f e = ltb-true _ _ f
-    root-below false f e = let z : _≡_ {A = ℕ} 0 1 = cc in absurd (omega arith)
+module _ (o : Offered) (root : ℕ) (e : linkRefusal o root ≡ none) where
+  few-whole : (tooMany o linkTables ≡ none) × (orElse (broken o linkTables) (noRoot o root) ≡ none)
+  unfolding linkRefusal
+  few-whole = or-none (tooMany o linkTables) (orElse (broken o linkTables) (noRoot o root)) e
+
+  whole-root : (broken o linkTables ≡ none) × (noRoot o root ≡ none)
+  whole-root = or-none (broken o linkTables) (noRoot o root) (few-whole .1)
+
+  pub link-checked : LinkChecked o
+  unfolding brokenIn
+  link-checked =
+      let few = all-few o linkTables (few-whole .0) in
+      let ok = all-whole o linkTables (whole-root .0) in
+      record {
+        tables = checked o (Instructions ∷ FuncInfo ∷ LineInfo ∷ []) few ok at4;
+        few-functions = few FuncInfo (List·Memᴰ·tail at4);
+        few-lines = few LineInfo (List·Memᴰ·tail (List·Memᴰ·tail at4));
+        funcInfo = exact o FuncInfo (ok FuncInfo (List·Memᴰ·tail at4));
+        lineInfo = exact o LineInfo (ok LineInfo (List·Memᴰ·tail (List·Memᴰ·tail at4)));
+      }
+
+  pub root-is-row : root < wholeRows Functions (o .functions)
+  root-is-row = root-below (ltb root (wholeRows Functions (o .functions))) refl (whole-root .1)
+    where
+      root-below : (b : Bool) → ltb root (wholeRows Functions (o .functions)) ≡ b → cond b none (some (reply 13 0 0 0)) ≡ none → root < wholeRows Functions (o .functions)
+      root-below true f e = ltb-true _ _ f
+      root-below false f e = let z : _≡_ {A = ℕ} 0 1 = cc in absurd (omega arith)

@@ -40,13 +40,12 @@ pub record MapChecked (o : Offered) : Type 0 where
   pub tables : Checked o
   pub maps : Sound Maps (o .maps)
 
-pub record LinkChecked (o : Offered) (root : ℕ) : Type 0 where
+pub record LinkChecked (o : Offered) : Type 0 where
   pub tables : Checked o
   pub few-functions : isTooMany FuncInfo (o .funcInfo) ≡ false
   pub few-lines : isTooMany LineInfo (o .lineInfo) ≡ false
   pub funcInfo : length (o .funcInfo) ≡ rowSize FuncInfo * total FuncInfo (o .functions)
   pub lineInfo : length (o .lineInfo) ≡ rowSize LineInfo * total LineInfo (o .functions)
-  pub root-row : root < wholeRows Functions (o .functions)
 
 -- is a section in table 1
 unfoldable pub isCodeSection : List ℕ → ℕ → Bool
