@@ -7,7 +7,7 @@ use lib.IntN.{ℤ}
 use lib.Dec.{eqb}
 use Rattle.rules.specs.Tables.{isAt}
 use Rattle.rules.specs.Maps.{isSymbol, hasNone}
-use Rattle.rules.specs.Rows.{orNone, codeSection, symbolIndex, functionSection, functionAddress, relocationSection, relocationOffset, mapSection, mapSymbol}
+use Rattle.rules.specs.Rows.{orNone, below, codeSection, symbolIndex, functionSection, functionAddress, relocationSection, relocationOffset, mapSection, mapSymbol}
 
 abbrev pub codeMatches : List ℕ → ℕ → ℕ → Bool
 codeMatches t home k = eqb home (codeSection t k)
@@ -20,6 +20,9 @@ functionMatches t home address k = eqb (functionSection t k) home && isAt (funct
 
 abbrev pub relocationMatches : List ℕ → ℕ → ℕ → ℕ → Bool
 relocationMatches t home offset k = eqb (relocationSection t k) home && eqb (relocationOffset t k) offset
+
+abbrev pub relocationIsBefore : List ℕ → ℕ → ℕ → ℕ → Bool
+relocationIsBefore t home offset k = below (relocationSection t k) (relocationOffset t k) home offset
 
 abbrev pub mapSymbolMatches : List ℕ → ℕ → ℕ → Bool
 mapSymbolMatches t symbol k = isSymbol symbol (orNone (mapSymbol t k))

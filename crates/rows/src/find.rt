@@ -19,9 +19,9 @@ ghost use Prim.Native.Nat.{_+_, _*_, _≤_};
 ghost use lib.Dec.{eqb};
 ghost use lib.ListN.{length};
 ghost use Rattle.rules.specs.declared.Table.the-variants.{Code, Symbols, Functions, Relocations, Maps};
-ghost use Rattle.rules.specs.Rows.{rowSize};
-ghost use Rattle.rules.specs.Lookups.{Sound, foundOf, isCodeSection, symbolWith, functionWith, relocationWith, mapWithSymbol, mapOfSection};
-ghost use Rattle.rows.specs.Matches.{functionMatches, relocationMatches, mapSymbolMatches, mapSectionMatches};
+ghost use Rattle.rules.specs.Rows.{rowSize, wholeRows, below};
+ghost use Rattle.rules.specs.Lookups.{Sound, foundOf, isCodeSection, symbolWith, functionWith, relocationWith, relocationsBefore, mapWithSymbol, mapOfSection};
+ghost use Rattle.rows.specs.Matches.{functionMatches, relocationMatches, relocationIsBefore, mapSymbolMatches, mapSectionMatches};
 
 const NO_SYMBOL: u32 = 0xFFFF_FFFF;
 
@@ -50,6 +50,25 @@ fn is_relocation(t: &[u8], k: usize, home: u32, offset: u64) -> bool
     ensures { λ r. ⌜ r ≡ relocationMatches (now (t .entry)) home offset k ⌝ }
 {
     same_place(
+        relocation_section(t, k),
+        relocation_offset(t, k),
+        home,
+        offset,
+    )
+}
+
+// (section, at) before (home, offset).
+fn is_before(section: u32, at: u64, home: u32, offset: u64) -> bool
+    ensures { λ r. ⌜ r ≡ below section at home offset ⌝ }
+{
+    (section < home) | ((section == home) & (at < offset))
+}
+
+fn is_relocation_before(t: &[u8], k: usize, home: u32, offset: u64) -> bool
+    requires { ⌜ rowSize Relocations * k + rowSize Relocations ≤ length (now t) ⌝ }
+    ensures { λ r. ⌜ r ≡ relocationIsBefore (now (t .entry)) home offset k ⌝ }
+{
+    is_before(
         relocation_section(t, k),
         relocation_offset(t, k),
         home,
@@ -137,6 +156,24 @@ pub fn find_relocation(t: &[u8], home: u32, offset: u64) -> Found
         k += 1;
     }
     Found::Nothing
+}
+
+// How many relocations stand before (home, offset), by halving.
+pub fn relocations_before(t: &[u8], home: u32, offset: u64) -> usize
+    requires { ⌜ Sound Relocations (now t) ⌝ }
+    ensures { λ r. ⌜ (r ≡ relocationsBefore (now (t .entry)) home offset) × (r ≤ wholeRows Relocations (now (t .entry))) ⌝ }
+{
+    let mut low = 0;
+    let mut high = t.len() / RELOCATION_SIZE;
+    while low < high {
+        let mid = low + (high - low) / 2;
+        if is_relocation_before(t, mid, home, offset) {
+            low = mid + 1;
+        } else {
+            high = mid;
+        }
+    }
+    low
 }
 
 pub fn find_map_symbol(t: &[u8], symbol: u32) -> Found

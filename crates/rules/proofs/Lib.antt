@@ -17,6 +17,7 @@ pub mod Refusing
 pub mod Reading
 pub mod Merging
 pub mod Lookups
+pub mod Numbered
 pub mod Invariant
 pub mod Limits
 pub mod Starts

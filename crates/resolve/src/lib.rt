@@ -1,0 +1,266 @@
+// The judgement of a slot: what it names by section and address, and what the link makes of that.
+use insn::byte_target;
+use insn::call_target;
+use insn::immediate;
+use insn::insn_is_call;
+use insn::is_wide_load;
+use insn::offset_at;
+use insn::place;
+use insn::slot_at;
+use rows::fields::function_offset;
+use rows::fields::function_section;
+use rows::fields::function_slots;
+use rows::fields::relocation_size;
+use rows::fields::relocation_symbol;
+use rows::fields::symbol_address;
+use rows::fields::symbol_kind;
+use rows::fields::symbol_section;
+use rows::find::find_function;
+use rows::find::find_symbol;
+use rows::find::is_code;
+use rules::Answer;
+use rules::Found;
+use rules::Slot;
+ghost use mathlib.Core.Path.{_≡_};
+ghost use mathlib.Core.List.{[]};
+ghost use Prim.Native.Nat.{_+_, _*_, _<_, _≤_};
+ghost use lib.IntN.{pos, _+ℤ_};
+ghost use Rattle.rules.specs.declared.Table.the-variants.{Functions};
+ghost use Rattle.rules.specs.Bytes.{little, slotIn};
+ghost use Rattle.rules.specs.Object as object;
+ghost use Rattle.rules.specs.Tables.{orMissing, slotsOn, bySymbol, bySymbolRow, byRelocation, objectOf};
+ghost use Rattle.rules.specs.Rows.{wholeRows, kindOf, orNone, functionSection, functionOffset, functionRow, relocationSymbol, relocationSize, relocationRow, symbolRow, mostAddress};
+ghost use Rattle.rules.specs.Lookups.{Sound, functionWith, symbolWith};
+ghost use Rattle.rules.proofs.Searches.{read};
+ghost use Rattle.resolve.specs.Means.{namedOf, Means, optionOf, tablesIn, bySize};
+ghost use Rattle.resolve.specs.Resolves.{Symbolic, Related, Names, Resolves};
+
+const NO_SECTION: u32 = 0xFFFF_FFFF;
+
+const OTHER: u8 = 0;
+
+const TEXT: u8 = 1;
+
+// What a slot names. Numbers are document 01's.
+pub enum Named {
+    Nothing,
+    Function(usize),
+    // 10
+    Missing,
+    // 3
+    UnknownSymbol,
+    // 8
+    UnknownForm,
+}
+
+// What the link makes of a slot: the callee's row, and whether it is a reference.
+pub enum Meaning {
+    Copied,
+    Points(usize, bool),
+    Refused(Answer),
+}
+
+pub fn by_address(functions: &[u8], home: u32, target: i64) -> Named
+    requires { ⌜ Sound Functions (now functions) ⌝ }
+    ensures { λ r. ⌜ namedOf r ≡ orMissing (functionWith (now (functions .entry)) home target) ⌝ }
+{
+    let found = find_function(functions, home, target);
+    match found {
+        Found::At(k) => Named::Function(k),
+        Found::Nothing => Named::Missing,
+    }
+}
+
+// "Section with size 32 targets address + 8 × (immediate + 1), with size 64 address + immediate; anything else 8".
+pub fn by_section(functions: &[u8], section: u32, address: u64, size: u8, imm: i32) -> Named
+    requires { ⌜ Sound Functions (now functions) × (address ≤ mostAddress) ⌝ }
+    ensures { λ r. ⌜ namedOf r ≡ bySize (now (functions .entry)) section address size imm ⌝ }
+{
+    let base = offset_at(address);
+    if size == 32 {
+        return by_address(functions, section, call_target(base, imm));
+    }
+    if size == 64 {
+        return by_address(functions, section, byte_target(base, imm));
+    }
+    Named::UnknownForm
+}
+
+pub fn by_symbol(
+    code: &[u8],
+    functions: &[u8],
+    kind: u8,
+    section: u32,
+    address: u64,
+    size: u8,
+    imm: i32,
+) -> Named
+    requires { ⌜ Symbolic (now code) (now functions) address ⌝ }
+    ensures { λ r. ⌜ namedOf r ≡ bySymbol (tablesIn (now (code .entry)) [] (now (functions .entry)) [] []) (kindOf kind) (orNone section) address size imm ⌝ }
+{
+    if section == NO_SECTION {
+        if kind == TEXT {
+            return Named::UnknownForm;
+        }
+        return Named::Nothing;
+    }
+    if kind == TEXT {
+        return by_address(functions, section, address as i64);
+    }
+    if !is_code(code, section) {
+        return Named::Nothing;
+    }
+    if kind == OTHER {
+        return Named::UnknownForm;
+    }
+    by_section(functions, section, address, size, imm)
+}
+
+// A call without a relocation: its own section, from its own place.
+pub fn by_place(functions: &[u8], row: usize, slot: u32, imm: i32) -> Named
+    requires { ⌜ Sound Functions (now functions) × (row < wholeRows Functions (now functions)) ⌝ }
+    ensures { λ r. ⌜ namedOf r ≡ orMissing (functionWith (now (functions .entry)) (functionSection (now (functions .entry)) row) (pos (functionOffset (now (functions .entry)) row + 8 * slot) +ℤ slotsOn imm)) ⌝ }
+{
+    let start = offset_at(function_offset(functions, row));
+    let here = place(start, slot_at(slot));
+    by_address(
+        functions,
+        function_section(functions, row),
+        call_target(here, imm),
+    )
+}
+
+// The symbol of relocation k.
+pub fn by_row(
+    code: &[u8],
+    symbols: &[u8],
+    functions: &[u8],
+    relocations: &[u8],
+    k: usize,
+    imm: i32,
+) -> Named
+    requires { ⌜ Related (now code) (now symbols) (now functions) (now relocations) k ⌝ }
+    ensures { λ r. ⌜ namedOf r ≡ bySymbolRow (tablesIn (now (code .entry)) [] (now (functions .entry)) [] []) (read (symbolRow (now (symbols .entry))) (symbolWith (now (symbols .entry)) (relocationSymbol (now (relocations .entry)) k))) (relocationSize (now (relocations .entry)) k) imm ⌝ }
+{
+    let found = find_symbol(symbols, relocation_symbol(relocations, k));
+    match found {
+        Found::Nothing => Named::UnknownSymbol,
+        Found::At(s) => by_symbol(
+            code,
+            functions,
+            symbol_kind(symbols, s),
+            symbol_section(symbols, s),
+            symbol_address(symbols, s),
+            relocation_size(relocations, k),
+            imm,
+        ),
+    }
+}
+
+pub fn by_relocation(
+    code: &[u8],
+    symbols: &[u8],
+    functions: &[u8],
+    relocations: &[u8],
+    instructions: &[u8],
+    row: usize,
+    slot: u32,
+    at: Slot,
+    rel: Found,
+) -> Named
+    requires { ⌜ Names (now code) (now symbols) (now functions) (now relocations) (now instructions) row (at .0) rel ⌝ }
+    ensures { λ r. ⌜ namedOf r ≡ byRelocation (tablesIn (now (code .entry)) (now (symbols .entry)) (now (functions .entry)) (now (relocations .entry)) (now (instructions .entry))) (read (relocationRow (now (relocations .entry))) (optionOf rel)) (functionRow (now (functions .entry)) row) slot (slotIn little (now (instructions .entry)) (at .0)) ⌝ }
+{
+    match rel {
+        Found::Nothing => {
+            if insn_is_call(instructions, at) {
+                return by_place(functions, row, slot, immediate(instructions, at));
+            }
+            return Named::Nothing;
+        }
+        Found::At(k) => {
+            return by_row(
+                code,
+                symbols,
+                functions,
+                relocations,
+                k,
+                immediate(instructions, at),
+            );
+        }
+    }
+}
+
+pub fn decide(is_call: bool, is_wide: bool, named: Named, row: u32, slot: u32) -> Meaning
+    ensures { λ r. ⌜ Means row slot r (object.decide «is_call» «is_wide» (namedOf named)) ⌝ }
+{
+    match named {
+        Named::Nothing => {
+            if !is_call {
+                return Meaning::Copied;
+            }
+            return Meaning::Refused(Answer::NoCode(row, slot));
+        }
+        Named::Function(callee) => {
+            if is_call {
+                return Meaning::Points(callee, false);
+            }
+            if is_wide {
+                return Meaning::Points(callee, true);
+            }
+            return Meaning::Refused(Answer::NotWideLoad(row, slot));
+        }
+        Named::Missing => {
+            let unknown = Answer::UnknownFunction(row, slot);
+            if is_call {
+                return Meaning::Refused(unknown);
+            }
+            if is_wide {
+                return Meaning::Refused(unknown);
+            }
+            return Meaning::Refused(Answer::NotWideLoad(row, slot));
+        }
+        Named::UnknownSymbol => {
+            return Meaning::Refused(Answer::UnknownSymbol(row, slot));
+        }
+        Named::UnknownForm => {
+            return Meaning::Refused(Answer::UnknownForm(row, slot));
+        }
+    }
+}
+
+pub fn resolve(
+    code: &[u8],
+    symbols: &[u8],
+    functions: &[u8],
+    relocations: &[u8],
+    instructions: &[u8],
+    row: usize,
+    first: u32,
+    slot: u32,
+    rel: Found,
+) -> Meaning
+    requires { ⌜ Resolves (now code) (now symbols) (now functions) (now relocations) (now instructions) row first slot rel ⌝ }
+    ensures { λ r. ⌜ Means row slot r (object.meaning (objectOf (tablesIn (now (code .entry)) (now (symbols .entry)) (now (functions .entry)) (now (relocations .entry)) (now (instructions .entry)))) row slot) ⌝ }
+{
+    let at = slot_at(first + slot);
+    let end = slot_at(first + function_slots(functions, row));
+    let named = by_relocation(
+        code,
+        symbols,
+        functions,
+        relocations,
+        instructions,
+        row,
+        slot,
+        at,
+        rel,
+    );
+    decide(
+        insn_is_call(instructions, at),
+        is_wide_load(instructions, at, end),
+        named,
+        row as u32,
+        slot,
+    )
+}
