@@ -1,0 +1,7 @@
+pub mod Pointing
+pub mod Extending
+pub mod Admitting
+pub mod Cursor
+pub mod Steps
+pub mod Whole
+pub mod Ways

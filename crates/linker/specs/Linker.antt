@@ -1,0 +1,163 @@
+-- What the linker's contracts say: the image's buffers hold a state of the link step (rules, specs/Link), and each function takes
+-- one such state to the next.
+-- Assumes nothing.
+use mathlib.Core.Path.{_≡_}
+use mathlib.Core.Logic.{_≢_}
+use mathlib.Core.Bool.{Bool, true, false}
+use mathlib.Core.Option.{Option, none, some}
+use mathlib.Core.List.{List, [], _∷_}
+use Prim.Native.Nat.{ℕ, zero, suc, _+_, _-_, _*_, _≤_, _<_}
+use lib.Dec.{eqb}
+use lib.ListN.{length, getD, take, drop, replicate}
+use Rattle.rules.specs.declared.Answer.{Answer}
+use Rattle.rules.specs.declared.Table.the-variants.{Functions}
+use Rattle.rules.specs.Object.{Object, displacement}
+use Rattle.rules.specs.Bytes.{little, decoded, immediateStored, sourceStored}
+use Rattle.rules.specs.Link as Link
+use Rattle.rules.specs.Link.{Outcome, linked, refuses, unfinished, startOf, visit, append}
+use Rattle.rules.specs.Tables.{Tables, objectOf}
+use Rattle.rules.specs.Records.{imageFunctions, imageLines, admits, linkStep}
+use Rattle.rules.specs.Answers.{reply, replyOf}
+use Rattle.rules.specs.Rows.{wholeRows, Offered, functionSlots, tablesOf, mostImageSlots}
+use Rattle.rules.specs.Lookups.{LinkChecked}
+use Rattle.rules.specs.Entries.{funcInfoBytes, lineInfoBytes, refusalReply, Outputs, roomIn, LinkResult, refusedLink, byOutcome}
+use Rattle.linker.specs.declared.State.{State}
+use Rattle.linker.specs.declared.Step.{Step}
+
+-- a start as the array has it
+abbrev pub startNumber : Option ℕ → ℕ
+startNumber none = 0
+startNumber (some start) = start
+
+-- the three outputs
+pub record Buffers : Type 0 where
+  pub image : List ℕ
+  pub funcs : List ℕ
+  pub lines : List ℕ
+
+abbrev pub buffers : List ℕ → List ℕ → List ℕ → Buffers
+buffers image funcs lines = record { image = image; funcs = funcs; lines = lines }
+
+abbrev pub lentBy : Buffers → Outputs
+lentBy b = record { image = length (b .image); funcInfo = length (b .funcs); lineInfo = length (b .lines) }
+
+-- how many rows have no start yet
+abbrev pub tally : Bool → ℕ → ℕ
+tally true n = suc n
+tally false n = n
+
+unfoldable pub unplaced : List ℕ → ℕ
+unplaced [] = 0
+unplaced (s ∷ ss) = tally (eqb s 0) (unplaced ss)
+
+-- counts and buffers that fit each other, zero after what is used
+pub record Valid (st : State) (b : Buffers) : Type 0 where
+  pub long : length (st .starts) ≡ 64
+  pub some-slot : 1 ≤ st .used .slots
+  pub most : st .used .slots ≤ mostImageSlots
+  pub slots : 8 * st .used .slots ≤ length (b .image)
+  pub funcs : 8 * st .used .funcs ≤ length (b .funcs)
+  pub lines : 16 * st .used .lines ≤ length (b .lines)
+  pub most-funcs : st .used .funcs ≤ 256
+  pub most-lines : st .used .lines ≤ 4096
+  pub starts : (row : ℕ) → getD (st .starts) row 0 < mostImageSlots
+  pub image-rest : drop (8 * st .used .slots) (b .image) ≡ replicate (length (b .image) - 8 * st .used .slots) 0
+  pub funcs-rest : drop (8 * st .used .funcs) (b .funcs) ≡ replicate (length (b .funcs) - 8 * st .used .funcs) 0
+  pub lines-rest : drop (16 * st .used .lines) (b .lines) ≡ replicate (length (b .lines) - 16 * st .used .lines) 0
+
+-- what has a start keeps it
+pub record Grown (before after : State) : Type 0 where
+  pub starts : (row : ℕ) → getD (before .starts) row 0 ≢ 0 → getD (after .starts) row 0 ≡ getD (before .starts) row 0
+  pub slots : before .used .slots ≤ after .used .slots
+
+-- the buffers hold this state of the link step
+pub record Holds (o : Offered) (root : ℕ) (st : State) (b : Buffers) (s : Link.State) : Type 0 where
+  pub slots : st .used .slots ≡ length (s .image)
+  pub image : decoded little (take (8 * st .used .slots) (b .image)) ≡ s .image
+  pub funcs-count : st .used .funcs ≡ length (imageFunctions (tablesOf little o) root (s .placed))
+  pub funcs : take (8 * st .used .funcs) (b .funcs) ≡ funcInfoBytes little (imageFunctions (tablesOf little o) root (s .placed))
+  pub lines-count : st .used .lines ≡ length (imageLines (tablesOf little o) root (s .placed))
+  pub lines : take (16 * st .used .lines) (b .lines) ≡ lineInfoBytes little (imageLines (tablesOf little o) root (s .placed))
+  pub starts : (row : ℕ) → row < wholeRows Functions (o .functions) → getD (st .starts) row 0 ≡ startNumber (startOf row (s .placed))
+  pub positive : (row start : ℕ) → startOf row (s .placed) ≡ some start → 1 ≤ start
+
+-- an answer, with the state and the buffers behind it, is this outcome
+abbrev pub Agrees : Offered → ℕ → Step → Buffers → Outcome → Type 0
+Agrees o root r b (linked s) = (replyOf (r .answer) ≡ reply 0 0 0 0) × Holds o root (r .state) b s
+Agrees o root r b (refuses why) = (replyOf (r .answer) ≡ refusalReply why) × (why .number ≢ 0)
+Agrees o root r b unfinished = ⊥
+
+-- the link step's two functions, over the tables' bytes: fuel for every row
+abbrev pub adding : Offered → Outputs → ℕ → ℕ → Link.State → Outcome
+adding o lent root row s = append (objectOf (tablesOf little o)) (admits (tablesOf little o) (roomIn lent) root) (objectOf (tablesOf little o) .rows) row s
+
+abbrev pub visiting : Offered → Outputs → ℕ → ℕ → ℕ → ℕ → ℕ → Link.State → Outcome
+visiting o lent root row start count slot s = visit (objectOf (tablesOf little o)) (adding o lent root) row start count slot s
+
+-- with its callee placed, appended first if it is not yet
+abbrev pub placing : Offered → Outputs → ℕ → Option ℕ → ℕ → Link.State → Outcome
+placing o lent root (some start) callee s = linked s
+placing o lent root none callee s = adding o lent root callee s
+
+-- what a step of the recursion asks
+pub record Asks (o : Offered) (st : State) (b : Buffers) (row : ℕ) : Type 0 where
+  pub checked : LinkChecked o
+  pub valid : Valid st b
+  pub row-in : row < wholeRows Functions (o .functions)
+
+-- and what it gives, whatever the root
+pub record Gives (o : Offered) (st : State) (b : Buffers) (r : Step) (b′ : Buffers) (outcome : ℕ → Link.State → Outcome) : Type 0 where
+  pub valid : replyOf (r .answer) .number ≡ 0 → Valid (r .state) b′
+  pub grown : replyOf (r .answer) .number ≡ 0 → Grown st (r .state)
+  pub lengths : lentBy b′ ≡ lentBy b
+  pub agrees : (root : ℕ) (s : Link.State) → Holds o root st b s → Agrees o root r b′ (outcome root s)
+
+pub record Adds (o : Offered) (st : State) (b : Buffers) (row : ℕ) : Type 0 where
+  pub asks : Asks o st b row
+  pub fresh : getD (st .starts) row 0 ≡ 0
+
+pub record Added (o : Offered) (st : State) (b : Buffers) (row : ℕ) (r : Step) (b′ : Buffers) : Type 0 where
+  pub gives : Gives o st b r b′ (λ root. adding o (lentBy b) root row)
+  pub start : replyOf (r .answer) .number ≡ 0 → getD (r .state .starts) row 0 ≡ st .used .slots
+
+pub record Placed (o : Offered) (st : State) (b : Buffers) (callee : ℕ) (r : Step) (b′ : Buffers) : Type 0 where
+  pub gives : Gives o st b r b′ (λ root s. placing o (lentBy b) root (startOf callee (s .placed)) callee s)
+  pub start : replyOf (r .answer) .number ≡ 0 → getD (st .starts) callee 0 ≡ 0 → getD (r .state .starts) callee 0 ≡ st .used .slots
+
+pub record Visits (o : Offered) (st : State) (b : Buffers) (row start : ℕ) : Type 0 where
+  pub asks : Asks o st b row
+  pub fits : start + functionSlots (o .functions) row ≤ st .used .slots
+
+abbrev pub Visited : Offered → State → Buffers → ℕ → ℕ → Step → Buffers → Type 0
+Visited o st b row start r b′ = Gives o st b r b′ (λ root. visiting o (lentBy b) root row start (functionSlots (o .functions) row) 0)
+
+-- a call, or a reference, rewritten in place
+abbrev pub pointedTo : Bool → List ℕ → ℕ → ℕ → List ℕ
+pointedTo false image here start = immediateStored little image here (displacement start here)
+pointedTo true image here start = immediateStored little (sourceStored little 4 image here) here (displacement start here)
+
+-- ---- the entry
+
+-- "The image starts as the root": checked tables, and outputs that are zero everywhere
+pub record Starts (o : Offered) (root : ℕ) (b : Buffers) : Type 0 where
+  pub checked : LinkChecked o
+  pub root-in : root < wholeRows Functions (o .functions)
+  pub image : b .image ≡ replicate (length (b .image)) 0
+  pub funcs : b .funcs ≡ replicate (length (b .funcs)) 0
+  pub lines : b .lines ≡ replicate (length (b .lines)) 0
+
+abbrev pub stepResult : Offered → ℕ → Outputs → LinkResult
+stepResult o root lent = byOutcome little (tablesOf little o) root lent (linkStep (tablesOf little o) (roomIn lent) root)
+
+-- the reply and all three outputs
+pub record Outcomes (b : Buffers) (a : Answer) (result : LinkResult) : Type 0 where
+  pub reply : replyOf a ≡ result .reply
+  pub image : b .image ≡ result .image
+  pub funcs : b .funcs ≡ result .funcInfo
+  pub lines : b .lines ≡ result .lineInfo
+
+-- the answer is the step's, and so are the outputs, but that a refusal has still to zero them
+pub record Ended (o : Offered) (root : ℕ) (b b′ : Buffers) (a : Answer) : Type 0 where
+  pub lengths : lentBy b′ ≡ lentBy b
+  pub done : replyOf a .number ≡ 0 → Outcomes b′ a (stepResult o root (lentBy b))
+  pub refused : replyOf a .number ≢ 0 → stepResult o root (lentBy b) ≡ refusedLink (lentBy b) (replyOf a)
