@@ -85,7 +85,9 @@ abbrev relocate-below : ℕ → In 10 relocate-kinds.ps
 relocate-below t =
     and 10 relocate-kinds.ps (falls 10 relocate-kinds.ps _<_ μ-relocate t) relocate.Pre
 
-link-function-has-room-requires : (t : ℕ) → link-function-lts.Need-has-room-requires (
+-- what the callees promise, with those of the cycle below the measure
+abbrev link-function-claims : ℕ → link-function-lts.Claims
+link-function-claims t = (
   has-room-reads.Asked,
   has-room-reads.Learnt,
   part-of-reads.Asked,
@@ -96,259 +98,93 @@ link-function-has-room-requires : (t : ℕ) → link-function-lts.Need-has-room-
   extend-reads.Learnt,
   relocate-below t,
   relocate.Post,
-) (link-function-at t) link-function.Post
+)
+
+abbrev relocate-claims : ℕ → relocate-lts.Claims
+relocate-claims t = (
+  function-slots-reads.Asked,
+  function-slots-reads.Learnt,
+  function-section-reads.Asked,
+  function-section-reads.Learnt,
+  function-offset-reads.Asked,
+  function-offset-reads.Learnt,
+  part-of-reads.Asked,
+  part-of-reads.Learnt,
+  relocations-before-reads.Asked,
+  relocations-before-reads.Learnt,
+  offset-at-reads.Asked,
+  offset-at-reads.Learnt,
+  slot-at-reads.Asked,
+  slot-at-reads.Learnt,
+  place-reads.Asked,
+  place-reads.Learnt,
+  is-here-reads.Asked,
+  is-here-reads.Learnt,
+  is-before-reads.Asked,
+  is-before-reads.Learnt,
+  resolve-reads.Asked,
+  resolve-reads.Learnt,
+  placed-below t,
+  placed.Post,
+  point-reads.Asked,
+  point-reads.Learnt,
+)
+
+link-function-has-room-requires : (t : ℕ) → link-function-lts.Need-has-room-requires (link-function-claims t) (link-function-at t) link-function.Post
 link-function-has-room-requires t c κs = c .before .before .before .before .before .before .before .before .before .before .before .pre .1 .asks .row-in
 
-link-function-cast-t25 : (t : ℕ) → link-function-lts.Need-cast-t25 (
-  has-room-reads.Asked,
-  has-room-reads.Learnt,
-  part-of-reads.Asked,
-  part-of-reads.Learnt,
-  stray-line-reads.Asked,
-  stray-line-reads.Learnt,
-  extend-reads.Asked,
-  extend-reads.Learnt,
-  relocate-below t,
-  relocate.Post,
-) (link-function-at t) link-function.Post
+link-function-cast-t25 : (t : ℕ) → link-function-lts.Need-cast-t25 (link-function-claims t) (link-function-at t) link-function.Post
 link-function-cast-t25 t c = omega (arith, ways.row-small (c .before .before .before .before .before .before .before .before .before .before .before .before .before .pre .1 .asks .checked) (c .before .before .before .before .before .before .before .before .before .before .before .before .before .pre .1 .asks .row-in))
 
-link-function-returns : (t : ℕ) → link-function-lts.Need-returns (
-  has-room-reads.Asked,
-  has-room-reads.Learnt,
-  part-of-reads.Asked,
-  part-of-reads.Learnt,
-  stray-line-reads.Asked,
-  stray-line-reads.Learnt,
-  extend-reads.Asked,
-  extend-reads.Learnt,
-  relocate-below t,
-  relocate.Post,
-) (link-function-at t) link-function.Post
+link-function-returns : (t : ℕ) → link-function-lts.Need-returns (link-function-claims t) (link-function-at t) link-function.Post
 link-function-returns t c = ways.out-of-room (c .before .before .before .before .before .before .before .before .before .before .before .before .before .pre .1) (sym (c .before .has-room .ensures) ∙ not-true _ (c .if1 .taken))
 
-link-function-part-of-requires : (t : ℕ) → link-function-lts.Need-part-of-requires (
-  has-room-reads.Asked,
-  has-room-reads.Learnt,
-  part-of-reads.Asked,
-  part-of-reads.Learnt,
-  stray-line-reads.Asked,
-  stray-line-reads.Learnt,
-  extend-reads.Asked,
-  extend-reads.Learnt,
-  relocate-below t,
-  relocate.Post,
-) (link-function-at t) link-function.Post
+link-function-part-of-requires : (t : ℕ) → link-function-lts.Need-part-of-requires (link-function-claims t) (link-function-at t) link-function.Post
 link-function-part-of-requires t c κs = ways.row-sums (c .before .before .before .before .before .before .before .before .before .before .before .before .before .pre .1 .asks .checked) (c .before .before .before .before .before .before .before .before .before .before .before .before .before .pre .1 .asks .row-in)
 
-link-function-stray-line-requires : (t : ℕ) → link-function-lts.Need-stray-line-requires (
-  has-room-reads.Asked,
-  has-room-reads.Learnt,
-  part-of-reads.Asked,
-  part-of-reads.Learnt,
-  stray-line-reads.Asked,
-  stray-line-reads.Learnt,
-  extend-reads.Asked,
-  extend-reads.Learnt,
-  relocate-below t,
-  relocate.Post,
-) (link-function-at t) link-function.Post
+link-function-stray-line-requires : (t : ℕ) → link-function-lts.Need-stray-line-requires (link-function-claims t) (link-function-at t) link-function.Post
 link-function-stray-line-requires t c κs = ways.add-lined (c .before .before .before .before .before .before .before .before .before .before .before .before .before .before .pre .1) (c .part-of .result) (c .part-of .ensures)
 
-link-function-enum-known-found : (t : ℕ) → link-function-lts.Need-enum-known-found (
-  has-room-reads.Asked,
-  has-room-reads.Learnt,
-  part-of-reads.Asked,
-  part-of-reads.Learnt,
-  stray-line-reads.Asked,
-  stray-line-reads.Learnt,
-  extend-reads.Asked,
-  extend-reads.Learnt,
-  relocate-below t,
-  relocate.Post,
-) (link-function-at t) link-function.Post
+link-function-enum-known-found : (t : ℕ) → link-function-lts.Need-enum-known-found (link-function-claims t) (link-function-at t) link-function.Post
 link-function-enum-known-found t c = search needs
 
-link-function-cast-t27 : (t : ℕ) → link-function-lts.Need-cast-t27 (
-  has-room-reads.Asked,
-  has-room-reads.Learnt,
-  part-of-reads.Asked,
-  part-of-reads.Learnt,
-  stray-line-reads.Asked,
-  stray-line-reads.Learnt,
-  extend-reads.Asked,
-  extend-reads.Learnt,
-  relocate-below t,
-  relocate.Post,
-) (link-function-at t) link-function.Post
+link-function-cast-t27 : (t : ℕ) → link-function-lts.Need-cast-t27 (link-function-claims t) (link-function-at t) link-function.Post
 link-function-cast-t27 t c = omega (arith, ways.row-small (c .before .before .before .before .before .before .before .before .before .before .before .before .before .before .before .before .before .before .pre .1 .asks .checked) (c .before .before .before .before .before .before .before .before .before .before .before .before .before .before .before .before .before .before .pre .1 .asks .row-in))
 
-link-function-cast-t28 : (t : ℕ) → link-function-lts.Need-cast-t28 (
-  has-room-reads.Asked,
-  has-room-reads.Learnt,
-  part-of-reads.Asked,
-  part-of-reads.Learnt,
-  stray-line-reads.Asked,
-  stray-line-reads.Learnt,
-  extend-reads.Asked,
-  extend-reads.Learnt,
-  relocate-below t,
-  relocate.Post,
-) (link-function-at t) link-function.Post
+link-function-cast-t28 : (t : ℕ) → link-function-lts.Need-cast-t28 (link-function-claims t) (link-function-at t) link-function.Post
 link-function-cast-t28 t c = omega (arith, ways.stray-small (c .before .before .before .before .before .before .before .before .before .before .before .before .before .before .before .before .before .before .pre .1) _ (found-some _ _ (sym (c .before .before .before .stray-line .ensures) ∙ c .before .found .given .1)))
 
-link-function-returns-2 : (t : ℕ) → link-function-lts.Need-returns-2 (
-  has-room-reads.Asked,
-  has-room-reads.Learnt,
-  part-of-reads.Asked,
-  part-of-reads.Learnt,
-  stray-line-reads.Asked,
-  stray-line-reads.Learnt,
-  extend-reads.Asked,
-  extend-reads.Learnt,
-  relocate-below t,
-  relocate.Post,
-) (link-function-at t) link-function.Post
+link-function-returns-2 : (t : ℕ) → link-function-lts.Need-returns-2 (link-function-claims t) (link-function-at t) link-function.Post
 link-function-returns-2 t c = ways.line-strays (c .before .before .before .before .before .before .before .before .before .before .before .before .before .before .before .before .before .before .pre .1) (sym (c .before .before .before .before .before .before .has-room .ensures) ∙ not-false _ (c .before .before .before .before .before .if1 .left)) _ (found-some _ _ (sym (c .before .before .before .stray-line .ensures) ∙ c .before .found .given .1))
 
-link-function-enum-told : (t : ℕ) → link-function-lts.Need-enum-told (
-  has-room-reads.Asked,
-  has-room-reads.Learnt,
-  part-of-reads.Asked,
-  part-of-reads.Learnt,
-  stray-line-reads.Asked,
-  stray-line-reads.Learnt,
-  extend-reads.Asked,
-  extend-reads.Learnt,
-  relocate-below t,
-  relocate.Post,
-) (link-function-at t) link-function.Post
+link-function-enum-told : (t : ℕ) → link-function-lts.Need-enum-told (link-function-claims t) (link-function-at t) link-function.Post
 link-function-enum-told t c = search needs
 
-link-function-extend-requires : (t : ℕ) → link-function-lts.Need-extend-requires (
-  has-room-reads.Asked,
-  has-room-reads.Learnt,
-  part-of-reads.Asked,
-  part-of-reads.Learnt,
-  stray-line-reads.Asked,
-  stray-line-reads.Learnt,
-  extend-reads.Asked,
-  extend-reads.Learnt,
-  relocate-below t,
-  relocate.Post,
-) (link-function-at t) link-function.Post
+link-function-extend-requires : (t : ℕ) → link-function-lts.Need-extend-requires (link-function-claims t) (link-function-at t) link-function.Post
 link-function-extend-requires t c κs = ways.add-extends (c .before .before .before .before .before .before .before .before .before .before .before .before .before .before .before .before .before .before .before .before .pre .1) (sym (c .before .before .before .before .before .before .before .before .has-room .ensures) ∙ not-false _ (c .before .before .before .before .before .before .before .if1 .left)) (found-none _ (sym (c .before .before .before .before .before .stray-line .ensures) ∙ c .before .before .before .enum-told .given .1))
 
-link-function-cast-next : (t : ℕ) → link-function-lts.Need-cast-next (
-  has-room-reads.Asked,
-  has-room-reads.Learnt,
-  part-of-reads.Asked,
-  part-of-reads.Learnt,
-  stray-line-reads.Asked,
-  stray-line-reads.Learnt,
-  extend-reads.Asked,
-  extend-reads.Learnt,
-  relocate-below t,
-  relocate.Post,
-) (link-function-at t) link-function.Post
+link-function-cast-next : (t : ℕ) → link-function-lts.Need-cast-next (link-function-claims t) (link-function-at t) link-function.Post
 link-function-cast-next t c = omega (arith, c .before .before .before .before .before .before .before .before .before .before .before .before .before .before .before .before .before .before .before .before .before .before .before .before .before .before .before .before .pre .1 .asks .valid .most)
 
-link-function-mul-next : (t : ℕ) → link-function-lts.Need-mul-next (
-  has-room-reads.Asked,
-  has-room-reads.Learnt,
-  part-of-reads.Asked,
-  part-of-reads.Learnt,
-  stray-line-reads.Asked,
-  stray-line-reads.Learnt,
-  extend-reads.Asked,
-  extend-reads.Learnt,
-  relocate-below t,
-  relocate.Post,
-) (link-function-at t) link-function.Post
+link-function-mul-next : (t : ℕ) → link-function-lts.Need-mul-next (link-function-claims t) (link-function-at t) link-function.Post
 link-function-mul-next t c = omega (arith, ways.row-small (c .before .before .before .before .before .before .before .before .before .before .before .before .before .before .before .before .before .before .before .before .before .before .before .before .before .before .before .before .pre .1 .asks .checked) (c .before .before .before .before .before .before .before .before .before .before .before .before .before .before .before .before .before .before .before .before .before .before .before .before .before .before .before .before .pre .1 .asks .row-in))
 
-link-function-element-write-next : (t : ℕ) → link-function-lts.Need-element-write-next (
-  has-room-reads.Asked,
-  has-room-reads.Learnt,
-  part-of-reads.Asked,
-  part-of-reads.Learnt,
-  stray-line-reads.Asked,
-  stray-line-reads.Learnt,
-  extend-reads.Asked,
-  extend-reads.Learnt,
-  relocate-below t,
-  relocate.Post,
-) (link-function-at t) link-function.Post
+link-function-element-write-next : (t : ℕ) → link-function-lts.Need-element-write-next (link-function-claims t) (link-function-at t) link-function.Post
 link-function-element-write-next t c = ways.row-small (c .before .before .before .before .before .before .before .before .before .before .before .before .before .before .before .before .before .before .before .before .before .before .before .before .before .before .before .before .pre .1 .asks .checked) (c .before .before .before .before .before .before .before .before .before .before .before .before .before .before .before .before .before .before .before .before .before .before .before .before .before .before .before .before .pre .1 .asks .row-in)
 
-link-function-relocate-requires : (t : ℕ) → link-function-lts.Need-relocate-requires (
-  has-room-reads.Asked,
-  has-room-reads.Learnt,
-  part-of-reads.Asked,
-  part-of-reads.Learnt,
-  stray-line-reads.Asked,
-  stray-line-reads.Learnt,
-  extend-reads.Asked,
-  extend-reads.Learnt,
-  relocate-below t,
-  relocate.Post,
-) (link-function-at t) link-function.Post
+link-function-relocate-requires : (t : ℕ) → link-function-lts.Need-relocate-requires (link-function-claims t) (link-function-at t) link-function.Post
 link-function-relocate-requires t c κs = (rw (← c .before .before .before .before .before .before .before .before .before .before .before .before .before .before .before .before .before .before .before .before .before .before .before .before .before .before .before .before .before .before .before .pre .0) (omega (arith, ways.next-falls (c .before .before .before .before .before .before .before .before .before .before .before .before .before .before .before .before .before .before .before .before .before .before .before .before .before .before .before .before .before .before .before .pre .1) (sym (c .before .before .before .before .before .before .before .before .before .before .before .before .before .before .before .before .before .before .before .has-room .ensures) ∙ not-false _ (c .before .before .before .before .before .before .before .before .before .before .before .before .before .before .before .before .before .before .if1 .left)) (found-none _ (sym (c .before .before .before .before .before .before .before .before .before .before .before .before .before .before .before .before .stray-line .ensures) ∙ c .before .before .before .before .before .before .before .before .before .before .before .before .before .before .enum-told .given .1)) (c .before .before .before .before .before .before .before .before .before .before .extend .ensures))), ways.next-visits (c .before .before .before .before .before .before .before .before .before .before .before .before .before .before .before .before .before .before .before .before .before .before .before .before .before .before .before .before .before .before .before .pre .1) (sym (c .before .before .before .before .before .before .before .before .before .before .before .before .before .before .before .before .before .before .before .has-room .ensures) ∙ not-false _ (c .before .before .before .before .before .before .before .before .before .before .before .before .before .before .before .before .before .before .if1 .left)) (found-none _ (sym (c .before .before .before .before .before .before .before .before .before .before .before .before .before .before .before .before .stray-line .ensures) ∙ c .before .before .before .before .before .before .before .before .before .before .before .before .before .before .enum-told .given .1)) (c .before .before .before .before .before .before .before .before .before .before .extend .ensures))
 
-link-function-same-length : (t : ℕ) → link-function-lts.Need-same-length (
-  has-room-reads.Asked,
-  has-room-reads.Learnt,
-  part-of-reads.Asked,
-  part-of-reads.Learnt,
-  stray-line-reads.Asked,
-  stray-line-reads.Learnt,
-  extend-reads.Asked,
-  extend-reads.Learnt,
-  relocate-below t,
-  relocate.Post,
-) (link-function-at t) link-function.Post
+link-function-same-length : (t : ℕ) → link-function-lts.Need-same-length (link-function-claims t) (link-function-at t) link-function.Post
 link-function-same-length t c = search needs
 
-link-function-same-length-2 : (t : ℕ) → link-function-lts.Need-same-length-2 (
-  has-room-reads.Asked,
-  has-room-reads.Learnt,
-  part-of-reads.Asked,
-  part-of-reads.Learnt,
-  stray-line-reads.Asked,
-  stray-line-reads.Learnt,
-  extend-reads.Asked,
-  extend-reads.Learnt,
-  relocate-below t,
-  relocate.Post,
-) (link-function-at t) link-function.Post
+link-function-same-length-2 : (t : ℕ) → link-function-lts.Need-same-length-2 (link-function-claims t) (link-function-at t) link-function.Post
 link-function-same-length-2 t c = search needs
 
-link-function-same-length-3 : (t : ℕ) → link-function-lts.Need-same-length-3 (
-  has-room-reads.Asked,
-  has-room-reads.Learnt,
-  part-of-reads.Asked,
-  part-of-reads.Learnt,
-  stray-line-reads.Asked,
-  stray-line-reads.Learnt,
-  extend-reads.Asked,
-  extend-reads.Learnt,
-  relocate-below t,
-  relocate.Post,
-) (link-function-at t) link-function.Post
+link-function-same-length-3 : (t : ℕ) → link-function-lts.Need-same-length-3 (link-function-claims t) (link-function-at t) link-function.Post
 link-function-same-length-3 t c = search needs
 
-link-function-returns-3 : (t : ℕ) → link-function-lts.Need-returns-3 (
-  has-room-reads.Asked,
-  has-room-reads.Learnt,
-  part-of-reads.Asked,
-  part-of-reads.Learnt,
-  stray-line-reads.Asked,
-  stray-line-reads.Learnt,
-  extend-reads.Asked,
-  extend-reads.Learnt,
-  relocate-below t,
-  relocate.Post,
-) (link-function-at t) link-function.Post
+link-function-returns-3 : (t : ℕ) → link-function-lts.Need-returns-3 (link-function-claims t) (link-function-at t) link-function.Post
 link-function-returns-3 t c = ways.next-done (c .before .before .before .before .before .before .before .before .before .before .before .before .before .before .before .before .before .before .before .before .before .before .before .before .before .before .before .before .before .before .before .before .before .before .before .before .before .before .pre .1) (sym (c .before .before .before .before .before .before .before .before .before .before .before .before .before .before .before .before .before .before .before .before .before .before .before .before .before .before .has-room .ensures) ∙ not-false _ (c .before .before .before .before .before .before .before .before .before .before .before .before .before .before .before .before .before .before .before .before .before .before .before .before .before .if1 .left)) (found-none _ (sym (c .before .before .before .before .before .before .before .before .before .before .before .before .before .before .before .before .before .before .before .before .before .before .before .stray-line .ensures) ∙ c .before .before .before .before .before .before .before .before .before .before .before .before .before .before .before .before .before .before .before .before .before .enum-told .given .1)) (c .before .before .before .before .before .before .before .before .before .before .before .before .before .before .before .before .before .extend .ensures) _ _ (c .before .before .before .before .before .before .relocate .ensures)
 
 placed-mul-if1 :
@@ -415,34 +251,7 @@ abbrev relocate-μ-loop : relocate-lts.MeasureT-loop
 relocate-μ-loop code symbols functions relocations instructions func-info line-info image₀ image-func-info₀ image-line-info₀ row start slots home offset first n cur₀ now₀ slot₀ image image-func-info image-line-info cur now slot =
     slots - slot
 
-relocate-function-slots-requires : (t : ℕ) → relocate-lts.Need-function-slots-requires (
-  function-slots-reads.Asked,
-  function-slots-reads.Learnt,
-  function-section-reads.Asked,
-  function-section-reads.Learnt,
-  function-offset-reads.Asked,
-  function-offset-reads.Learnt,
-  part-of-reads.Asked,
-  part-of-reads.Learnt,
-  relocations-before-reads.Asked,
-  relocations-before-reads.Learnt,
-  offset-at-reads.Asked,
-  offset-at-reads.Learnt,
-  slot-at-reads.Asked,
-  slot-at-reads.Learnt,
-  place-reads.Asked,
-  place-reads.Learnt,
-  is-here-reads.Asked,
-  is-here-reads.Learnt,
-  is-before-reads.Asked,
-  is-before-reads.Learnt,
-  resolve-reads.Asked,
-  resolve-reads.Learnt,
-  placed-below t,
-  placed.Post,
-  point-reads.Asked,
-  point-reads.Learnt,
-)
+relocate-function-slots-requires : (t : ℕ) → relocate-lts.Need-function-slots-requires (relocate-claims t)
     (relocate-at t)
     relocate.Post
     relocate-Inv-loop2
@@ -451,34 +260,7 @@ relocate-function-slots-requires : (t : ℕ) → relocate-lts.Need-function-slot
     relocate-μ-loop
 relocate-function-slots-requires t c κs = ways.row-inside (c .before .before .before .before .before .before .before .before .before .before .pre .1 .asks .checked) (c .before .before .before .before .before .before .before .before .before .before .pre .1 .asks .row-in)
 
-relocate-function-section-requires : (t : ℕ) → relocate-lts.Need-function-section-requires (
-  function-slots-reads.Asked,
-  function-slots-reads.Learnt,
-  function-section-reads.Asked,
-  function-section-reads.Learnt,
-  function-offset-reads.Asked,
-  function-offset-reads.Learnt,
-  part-of-reads.Asked,
-  part-of-reads.Learnt,
-  relocations-before-reads.Asked,
-  relocations-before-reads.Learnt,
-  offset-at-reads.Asked,
-  offset-at-reads.Learnt,
-  slot-at-reads.Asked,
-  slot-at-reads.Learnt,
-  place-reads.Asked,
-  place-reads.Learnt,
-  is-here-reads.Asked,
-  is-here-reads.Learnt,
-  is-before-reads.Asked,
-  is-before-reads.Learnt,
-  resolve-reads.Asked,
-  resolve-reads.Learnt,
-  placed-below t,
-  placed.Post,
-  point-reads.Asked,
-  point-reads.Learnt,
-)
+relocate-function-section-requires : (t : ℕ) → relocate-lts.Need-function-section-requires (relocate-claims t)
     (relocate-at t)
     relocate.Post
     relocate-Inv-loop2
@@ -487,34 +269,7 @@ relocate-function-section-requires : (t : ℕ) → relocate-lts.Need-function-se
     relocate-μ-loop
 relocate-function-section-requires t c κs = ways.row-inside (c .before .before .before .before .before .before .before .before .before .before .before .pre .1 .asks .checked) (c .before .before .before .before .before .before .before .before .before .before .before .pre .1 .asks .row-in)
 
-relocate-function-offset-requires : (t : ℕ) → relocate-lts.Need-function-offset-requires (
-  function-slots-reads.Asked,
-  function-slots-reads.Learnt,
-  function-section-reads.Asked,
-  function-section-reads.Learnt,
-  function-offset-reads.Asked,
-  function-offset-reads.Learnt,
-  part-of-reads.Asked,
-  part-of-reads.Learnt,
-  relocations-before-reads.Asked,
-  relocations-before-reads.Learnt,
-  offset-at-reads.Asked,
-  offset-at-reads.Learnt,
-  slot-at-reads.Asked,
-  slot-at-reads.Learnt,
-  place-reads.Asked,
-  place-reads.Learnt,
-  is-here-reads.Asked,
-  is-here-reads.Learnt,
-  is-before-reads.Asked,
-  is-before-reads.Learnt,
-  resolve-reads.Asked,
-  resolve-reads.Learnt,
-  placed-below t,
-  placed.Post,
-  point-reads.Asked,
-  point-reads.Learnt,
-)
+relocate-function-offset-requires : (t : ℕ) → relocate-lts.Need-function-offset-requires (relocate-claims t)
     (relocate-at t)
     relocate.Post
     relocate-Inv-loop2
@@ -523,34 +278,7 @@ relocate-function-offset-requires : (t : ℕ) → relocate-lts.Need-function-off
     relocate-μ-loop
 relocate-function-offset-requires t c κs = ways.row-inside (c .before .before .before .before .before .before .before .before .before .before .before .before .pre .1 .asks .checked) (c .before .before .before .before .before .before .before .before .before .before .before .before .pre .1 .asks .row-in)
 
-relocate-part-of-requires : (t : ℕ) → relocate-lts.Need-part-of-requires (
-  function-slots-reads.Asked,
-  function-slots-reads.Learnt,
-  function-section-reads.Asked,
-  function-section-reads.Learnt,
-  function-offset-reads.Asked,
-  function-offset-reads.Learnt,
-  part-of-reads.Asked,
-  part-of-reads.Learnt,
-  relocations-before-reads.Asked,
-  relocations-before-reads.Learnt,
-  offset-at-reads.Asked,
-  offset-at-reads.Learnt,
-  slot-at-reads.Asked,
-  slot-at-reads.Learnt,
-  place-reads.Asked,
-  place-reads.Learnt,
-  is-here-reads.Asked,
-  is-here-reads.Learnt,
-  is-before-reads.Asked,
-  is-before-reads.Learnt,
-  resolve-reads.Asked,
-  resolve-reads.Learnt,
-  placed-below t,
-  placed.Post,
-  point-reads.Asked,
-  point-reads.Learnt,
-)
+relocate-part-of-requires : (t : ℕ) → relocate-lts.Need-part-of-requires (relocate-claims t)
     (relocate-at t)
     relocate.Post
     relocate-Inv-loop2
@@ -559,34 +287,7 @@ relocate-part-of-requires : (t : ℕ) → relocate-lts.Need-part-of-requires (
     relocate-μ-loop
 relocate-part-of-requires t c κs = ways.row-sums (c .before .before .before .before .before .before .before .before .before .before .before .before .before .pre .1 .asks .checked) (c .before .before .before .before .before .before .before .before .before .before .before .before .before .pre .1 .asks .row-in)
 
-relocate-relocations-before-requires : (t : ℕ) → relocate-lts.Need-relocations-before-requires (
-  function-slots-reads.Asked,
-  function-slots-reads.Learnt,
-  function-section-reads.Asked,
-  function-section-reads.Learnt,
-  function-offset-reads.Asked,
-  function-offset-reads.Learnt,
-  part-of-reads.Asked,
-  part-of-reads.Learnt,
-  relocations-before-reads.Asked,
-  relocations-before-reads.Learnt,
-  offset-at-reads.Asked,
-  offset-at-reads.Learnt,
-  slot-at-reads.Asked,
-  slot-at-reads.Learnt,
-  place-reads.Asked,
-  place-reads.Learnt,
-  is-here-reads.Asked,
-  is-here-reads.Learnt,
-  is-before-reads.Asked,
-  is-before-reads.Learnt,
-  resolve-reads.Asked,
-  resolve-reads.Learnt,
-  placed-below t,
-  placed.Post,
-  point-reads.Asked,
-  point-reads.Learnt,
-)
+relocate-relocations-before-requires : (t : ℕ) → relocate-lts.Need-relocations-before-requires (relocate-claims t)
     (relocate-at t)
     relocate.Post
     relocate-Inv-loop2
@@ -595,34 +296,7 @@ relocate-relocations-before-requires : (t : ℕ) → relocate-lts.Need-relocatio
     relocate-μ-loop
 relocate-relocations-before-requires t c κs = c .before .before .before .before .before .before .before .before .before .before .before .before .before .before .pre .1 .asks .checked .tables .relocations
 
-relocate-loop-holds : (t : ℕ) → relocate-lts.Need-loop-holds (
-  function-slots-reads.Asked,
-  function-slots-reads.Learnt,
-  function-section-reads.Asked,
-  function-section-reads.Learnt,
-  function-offset-reads.Asked,
-  function-offset-reads.Learnt,
-  part-of-reads.Asked,
-  part-of-reads.Learnt,
-  relocations-before-reads.Asked,
-  relocations-before-reads.Learnt,
-  offset-at-reads.Asked,
-  offset-at-reads.Learnt,
-  slot-at-reads.Asked,
-  slot-at-reads.Learnt,
-  place-reads.Asked,
-  place-reads.Learnt,
-  is-here-reads.Asked,
-  is-here-reads.Learnt,
-  is-before-reads.Asked,
-  is-before-reads.Learnt,
-  resolve-reads.Asked,
-  resolve-reads.Learnt,
-  placed-below t,
-  placed.Post,
-  point-reads.Asked,
-  point-reads.Learnt,
-)
+relocate-loop-holds : (t : ℕ) → relocate-lts.Need-loop-holds (relocate-claims t)
     (relocate-at t)
     relocate.Post
     relocate-Inv-loop2
@@ -631,34 +305,7 @@ relocate-loop-holds : (t : ℕ) → relocate-lts.Need-loop-holds (
     relocate-μ-loop
 relocate-loop-holds t c = ways.begins-at (c .before .before .before .before .before .before .before .before .before .before .before .before .before .before .before .pre .1) _ _ _ (c .before .before .before .function-section .ensures) (c .before .before .function-offset .ensures) (c .relocations-before .ensures .0) (c .relocations-before .ensures .1)
 
-relocate-offset-at-requires : (t : ℕ) → relocate-lts.Need-offset-at-requires (
-  function-slots-reads.Asked,
-  function-slots-reads.Learnt,
-  function-section-reads.Asked,
-  function-section-reads.Learnt,
-  function-offset-reads.Asked,
-  function-offset-reads.Learnt,
-  part-of-reads.Asked,
-  part-of-reads.Learnt,
-  relocations-before-reads.Asked,
-  relocations-before-reads.Learnt,
-  offset-at-reads.Asked,
-  offset-at-reads.Learnt,
-  slot-at-reads.Asked,
-  slot-at-reads.Learnt,
-  place-reads.Asked,
-  place-reads.Learnt,
-  is-here-reads.Asked,
-  is-here-reads.Learnt,
-  is-before-reads.Asked,
-  is-before-reads.Learnt,
-  resolve-reads.Asked,
-  resolve-reads.Learnt,
-  placed-below t,
-  placed.Post,
-  point-reads.Asked,
-  point-reads.Learnt,
-)
+relocate-offset-at-requires : (t : ℕ) → relocate-lts.Need-offset-at-requires (relocate-claims t)
     (relocate-at t)
     relocate.Post
     relocate-Inv-loop2
@@ -667,34 +314,7 @@ relocate-offset-at-requires : (t : ℕ) → relocate-lts.Need-offset-at-requires
     relocate-μ-loop
 relocate-offset-at-requires t c κs = search needs
 
-relocate-slot-at-requires : (t : ℕ) → relocate-lts.Need-slot-at-requires (
-  function-slots-reads.Asked,
-  function-slots-reads.Learnt,
-  function-section-reads.Asked,
-  function-section-reads.Learnt,
-  function-offset-reads.Asked,
-  function-offset-reads.Learnt,
-  part-of-reads.Asked,
-  part-of-reads.Learnt,
-  relocations-before-reads.Asked,
-  relocations-before-reads.Learnt,
-  offset-at-reads.Asked,
-  offset-at-reads.Learnt,
-  slot-at-reads.Asked,
-  slot-at-reads.Learnt,
-  place-reads.Asked,
-  place-reads.Learnt,
-  is-here-reads.Asked,
-  is-here-reads.Learnt,
-  is-before-reads.Asked,
-  is-before-reads.Learnt,
-  resolve-reads.Asked,
-  resolve-reads.Learnt,
-  placed-below t,
-  placed.Post,
-  point-reads.Asked,
-  point-reads.Learnt,
-)
+relocate-slot-at-requires : (t : ℕ) → relocate-lts.Need-slot-at-requires (relocate-claims t)
     (relocate-at t)
     relocate.Post
     relocate-Inv-loop2
@@ -703,34 +323,7 @@ relocate-slot-at-requires : (t : ℕ) → relocate-lts.Need-slot-at-requires (
     relocate-μ-loop
 relocate-slot-at-requires t c κs = search needs
 
-relocate-place-requires : (t : ℕ) → relocate-lts.Need-place-requires (
-  function-slots-reads.Asked,
-  function-slots-reads.Learnt,
-  function-section-reads.Asked,
-  function-section-reads.Learnt,
-  function-offset-reads.Asked,
-  function-offset-reads.Learnt,
-  part-of-reads.Asked,
-  part-of-reads.Learnt,
-  relocations-before-reads.Asked,
-  relocations-before-reads.Learnt,
-  offset-at-reads.Asked,
-  offset-at-reads.Learnt,
-  slot-at-reads.Asked,
-  slot-at-reads.Learnt,
-  place-reads.Asked,
-  place-reads.Learnt,
-  is-here-reads.Asked,
-  is-here-reads.Learnt,
-  is-before-reads.Asked,
-  is-before-reads.Learnt,
-  resolve-reads.Asked,
-  resolve-reads.Learnt,
-  placed-below t,
-  placed.Post,
-  point-reads.Asked,
-  point-reads.Learnt,
-)
+relocate-place-requires : (t : ℕ) → relocate-lts.Need-place-requires (relocate-claims t)
     (relocate-at t)
     relocate.Post
     relocate-Inv-loop2
@@ -739,34 +332,7 @@ relocate-place-requires : (t : ℕ) → relocate-lts.Need-place-requires (
     relocate-μ-loop
 relocate-place-requires t c κs = omega (arith, ways.offset-low (c .before .before .before .before .before .before .before .before .before .before .before .before .before .before .before .before .before .before .before .pre .1), (c .before .before .before .before .before .before .function-offset .ensures), c .before .offset-at .ensures)
 
-relocate-loop2-holds : (t : ℕ) → relocate-lts.Need-loop2-holds (
-  function-slots-reads.Asked,
-  function-slots-reads.Learnt,
-  function-section-reads.Asked,
-  function-section-reads.Learnt,
-  function-offset-reads.Asked,
-  function-offset-reads.Learnt,
-  part-of-reads.Asked,
-  part-of-reads.Learnt,
-  relocations-before-reads.Asked,
-  relocations-before-reads.Learnt,
-  offset-at-reads.Asked,
-  offset-at-reads.Learnt,
-  slot-at-reads.Asked,
-  slot-at-reads.Learnt,
-  place-reads.Asked,
-  place-reads.Learnt,
-  is-here-reads.Asked,
-  is-here-reads.Learnt,
-  is-before-reads.Asked,
-  is-before-reads.Learnt,
-  resolve-reads.Asked,
-  resolve-reads.Learnt,
-  placed-below t,
-  placed.Post,
-  point-reads.Asked,
-  point-reads.Learnt,
-)
+relocate-loop2-holds : (t : ℕ) → relocate-lts.Need-loop2-holds (relocate-claims t)
     (relocate-at t)
     relocate.Post
     relocate-Inv-loop2
@@ -775,34 +341,7 @@ relocate-loop2-holds : (t : ℕ) → relocate-lts.Need-loop2-holds (
     relocate-μ-loop
 relocate-loop2-holds t c = c .before .before .before .before .loop .inv .1
 
-relocate-is-here-requires : (t : ℕ) → relocate-lts.Need-is-here-requires (
-  function-slots-reads.Asked,
-  function-slots-reads.Learnt,
-  function-section-reads.Asked,
-  function-section-reads.Learnt,
-  function-offset-reads.Asked,
-  function-offset-reads.Learnt,
-  part-of-reads.Asked,
-  part-of-reads.Learnt,
-  relocations-before-reads.Asked,
-  relocations-before-reads.Learnt,
-  offset-at-reads.Asked,
-  offset-at-reads.Learnt,
-  slot-at-reads.Asked,
-  slot-at-reads.Learnt,
-  place-reads.Asked,
-  place-reads.Learnt,
-  is-here-reads.Asked,
-  is-here-reads.Learnt,
-  is-before-reads.Asked,
-  is-before-reads.Learnt,
-  resolve-reads.Asked,
-  resolve-reads.Learnt,
-  placed-below t,
-  placed.Post,
-  point-reads.Asked,
-  point-reads.Learnt,
-)
+relocate-is-here-requires : (t : ℕ) → relocate-lts.Need-is-here-requires (relocate-claims t)
     (relocate-at t)
     relocate.Post
     relocate-Inv-loop2
@@ -811,34 +350,7 @@ relocate-is-here-requires : (t : ℕ) → relocate-lts.Need-is-here-requires (
     relocate-μ-loop
 relocate-is-here-requires t c κs = ways.rows-of (c .before .before .before .before .before .before .before .before .before .before .before .before .before .before .before .before .before .before .before .before .before .before .pre .1) _ (ways.lt-of (c .before .loop2 .inv .0) (c .if1 .left))
 
-relocate-is-before-requires : (t : ℕ) → relocate-lts.Need-is-before-requires (
-  function-slots-reads.Asked,
-  function-slots-reads.Learnt,
-  function-section-reads.Asked,
-  function-section-reads.Learnt,
-  function-offset-reads.Asked,
-  function-offset-reads.Learnt,
-  part-of-reads.Asked,
-  part-of-reads.Learnt,
-  relocations-before-reads.Asked,
-  relocations-before-reads.Learnt,
-  offset-at-reads.Asked,
-  offset-at-reads.Learnt,
-  slot-at-reads.Asked,
-  slot-at-reads.Learnt,
-  place-reads.Asked,
-  place-reads.Learnt,
-  is-here-reads.Asked,
-  is-here-reads.Learnt,
-  is-before-reads.Asked,
-  is-before-reads.Learnt,
-  resolve-reads.Asked,
-  resolve-reads.Learnt,
-  placed-below t,
-  placed.Post,
-  point-reads.Asked,
-  point-reads.Learnt,
-)
+relocate-is-before-requires : (t : ℕ) → relocate-lts.Need-is-before-requires (relocate-claims t)
     (relocate-at t)
     relocate.Post
     relocate-Inv-loop2
@@ -847,34 +359,7 @@ relocate-is-before-requires : (t : ℕ) → relocate-lts.Need-is-before-requires
     relocate-μ-loop
 relocate-is-before-requires t c κs = ways.rows-of (c .before .before .before .before .before .before .before .before .before .before .before .before .before .before .before .before .before .before .before .before .before .before .before .before .pre .1) _ (ways.lt-of (c .before .before .before .loop2 .inv .0) (c .before .before .if1 .left))
 
-relocate-add-cur : (t : ℕ) → relocate-lts.Need-add-cur (
-  function-slots-reads.Asked,
-  function-slots-reads.Learnt,
-  function-section-reads.Asked,
-  function-section-reads.Learnt,
-  function-offset-reads.Asked,
-  function-offset-reads.Learnt,
-  part-of-reads.Asked,
-  part-of-reads.Learnt,
-  relocations-before-reads.Asked,
-  relocations-before-reads.Learnt,
-  offset-at-reads.Asked,
-  offset-at-reads.Learnt,
-  slot-at-reads.Asked,
-  slot-at-reads.Learnt,
-  place-reads.Asked,
-  place-reads.Learnt,
-  is-here-reads.Asked,
-  is-here-reads.Learnt,
-  is-before-reads.Asked,
-  is-before-reads.Learnt,
-  resolve-reads.Asked,
-  resolve-reads.Learnt,
-  placed-below t,
-  placed.Post,
-  point-reads.Asked,
-  point-reads.Learnt,
-)
+relocate-add-cur : (t : ℕ) → relocate-lts.Need-add-cur (relocate-claims t)
     (relocate-at t)
     relocate.Post
     relocate-Inv-loop2
@@ -883,34 +368,7 @@ relocate-add-cur : (t : ℕ) → relocate-lts.Need-add-cur (
     relocate-μ-loop
 relocate-add-cur t c = omega (arith, ways.rows-few (c .before .before .before .before .before .before .before .before .before .before .before .before .before .before .before .before .before .before .before .before .before .before .before .before .before .before .pre .1), (ways.lt-of (c .before .before .before .before .before .loop2 .inv .0) (c .before .before .before .before .if1 .left)))
 
-relocate-loop2-less : (t : ℕ) → relocate-lts.Need-loop2-less (
-  function-slots-reads.Asked,
-  function-slots-reads.Learnt,
-  function-section-reads.Asked,
-  function-section-reads.Learnt,
-  function-offset-reads.Asked,
-  function-offset-reads.Learnt,
-  part-of-reads.Asked,
-  part-of-reads.Learnt,
-  relocations-before-reads.Asked,
-  relocations-before-reads.Learnt,
-  offset-at-reads.Asked,
-  offset-at-reads.Learnt,
-  slot-at-reads.Asked,
-  slot-at-reads.Learnt,
-  place-reads.Asked,
-  place-reads.Learnt,
-  is-here-reads.Asked,
-  is-here-reads.Learnt,
-  is-before-reads.Asked,
-  is-before-reads.Learnt,
-  resolve-reads.Asked,
-  resolve-reads.Learnt,
-  placed-below t,
-  placed.Post,
-  point-reads.Asked,
-  point-reads.Learnt,
-)
+relocate-loop2-less : (t : ℕ) → relocate-lts.Need-loop2-less (relocate-claims t)
     (relocate-at t)
     relocate.Post
     relocate-Inv-loop2
@@ -919,34 +377,7 @@ relocate-loop2-less : (t : ℕ) → relocate-lts.Need-loop2-less (
     relocate-μ-loop
 relocate-loop2-less t c = omega (arith, (ways.lt-of (c .before .before .before .before .before .loop2 .inv .0) (c .before .before .before .before .if1 .left)))
 
-relocate-loop2-again : (t : ℕ) → relocate-lts.Need-loop2-again (
-  function-slots-reads.Asked,
-  function-slots-reads.Learnt,
-  function-section-reads.Asked,
-  function-section-reads.Learnt,
-  function-offset-reads.Asked,
-  function-offset-reads.Learnt,
-  part-of-reads.Asked,
-  part-of-reads.Learnt,
-  relocations-before-reads.Asked,
-  relocations-before-reads.Learnt,
-  offset-at-reads.Asked,
-  offset-at-reads.Learnt,
-  slot-at-reads.Asked,
-  slot-at-reads.Learnt,
-  place-reads.Asked,
-  place-reads.Learnt,
-  is-here-reads.Asked,
-  is-here-reads.Learnt,
-  is-before-reads.Asked,
-  is-before-reads.Learnt,
-  resolve-reads.Asked,
-  resolve-reads.Learnt,
-  placed-below t,
-  placed.Post,
-  point-reads.Asked,
-  point-reads.Learnt,
-)
+relocate-loop2-again : (t : ℕ) → relocate-lts.Need-loop2-again (relocate-claims t)
     (relocate-at t)
     relocate.Post
     relocate-Inv-loop2
@@ -956,34 +387,7 @@ relocate-loop2-again : (t : ℕ) → relocate-lts.Need-loop2-again (
 relocate-loop2-again t c = (omega (arith, (ways.lt-of (c .before .before .before .before .before .loop2 .inv .0) (c .before .before .before .before .if1 .left))), ways.goes-on (c .before .before .before .before .before .before .before .before .before .before .before .before .before .before .before .before .before .before .before .before .before .before .before .before .before .before .pre .1) (c .before .before .before .before .before .loop2 .cur) (c .before .before .before .before .before .before .before .before .before .before .before .before .before .before .function-section .ensures) (ways.at-is (c .before .before .before .before .before .before .before .before .before .before .before .before .before .function-offset .ensures) (c .before .before .before .before .before .before .before .before .offset-at .ensures) (c .before .before .before .before .before .before .before .slot-at .ensures) (c .before .before .before .before .before .before .place .ensures .0)) (c .before .before .before .before .before .loop2 .inv .1) (c .before .is-before .ensures) (not-false _ (c .if3 .left)))
 
 -- what the search found
-found-is : (t : ℕ) (c : relocate-lts.Joined1 (
-  function-slots-reads.Asked,
-  function-slots-reads.Learnt,
-  function-section-reads.Asked,
-  function-section-reads.Learnt,
-  function-offset-reads.Asked,
-  function-offset-reads.Learnt,
-  part-of-reads.Asked,
-  part-of-reads.Learnt,
-  relocations-before-reads.Asked,
-  relocations-before-reads.Learnt,
-  offset-at-reads.Asked,
-  offset-at-reads.Learnt,
-  slot-at-reads.Asked,
-  slot-at-reads.Learnt,
-  place-reads.Asked,
-  place-reads.Learnt,
-  is-here-reads.Asked,
-  is-here-reads.Learnt,
-  is-before-reads.Asked,
-  is-before-reads.Learnt,
-  resolve-reads.Asked,
-  resolve-reads.Learnt,
-  placed-below t,
-  placed.Post,
-  point-reads.Asked,
-  point-reads.Learnt,
-)
+found-is : (t : ℕ) (c : relocate-lts.Joined1 (relocate-claims t)
     (relocate-at t)
     relocate.Post
     relocate-Inv-loop2
@@ -1001,34 +405,7 @@ found-is t c =
     (λ w. w .5 ∙ ways.found-later′ (c .before .before .before .before .before .before .before .before .before .before .before .before .before .before .before .before .before .before .before .before .before .before .pre .1) (l .cur) (c .before .before .before .before .before .before .before .before .before .before .function-section .ensures) (ways.at-is (c .before .before .before .before .before .before .before .before .before .function-offset .ensures) (c .before .before .before .before .offset-at .ensures) (c .before .before .before .slot-at .ensures) (c .before .before .place .ensures .0)) (l .inv .1) (ways.lt-of (l .inv .0) (w .0 .left)) (w .1 .ensures) (w .2 .left) (w .3 .ensures) (not-true _ (w .4 .taken))))
     (c .if1 .came)
 
-relocate-resolve-requires : (t : ℕ) → relocate-lts.Need-resolve-requires (
-  function-slots-reads.Asked,
-  function-slots-reads.Learnt,
-  function-section-reads.Asked,
-  function-section-reads.Learnt,
-  function-offset-reads.Asked,
-  function-offset-reads.Learnt,
-  part-of-reads.Asked,
-  part-of-reads.Learnt,
-  relocations-before-reads.Asked,
-  relocations-before-reads.Learnt,
-  offset-at-reads.Asked,
-  offset-at-reads.Learnt,
-  slot-at-reads.Asked,
-  slot-at-reads.Learnt,
-  place-reads.Asked,
-  place-reads.Learnt,
-  is-here-reads.Asked,
-  is-here-reads.Learnt,
-  is-before-reads.Asked,
-  is-before-reads.Learnt,
-  resolve-reads.Asked,
-  resolve-reads.Learnt,
-  placed-below t,
-  placed.Post,
-  point-reads.Asked,
-  point-reads.Learnt,
-)
+relocate-resolve-requires : (t : ℕ) → relocate-lts.Need-resolve-requires (relocate-claims t)
     (relocate-at t)
     relocate.Post
     relocate-Inv-loop2
@@ -1037,34 +414,7 @@ relocate-resolve-requires : (t : ℕ) → relocate-lts.Need-resolve-requires (
     relocate-μ-loop
 relocate-resolve-requires t c κs = ways.resolves (c .before .before .before .before .before .before .before .before .before .before .before .before .before .before .before .before .before .before .before .before .before .before .pre .1) (c .before .before .before .before .before .before .loop .inv .0) (ways.turn-of (c .before .before .before .before .before .before .before .before .before .before .before .function-slots .ensures) (c .before .before .before .before .before .loop-test .taken)) _ _ (c .before .before .before .before .before .before .before .before .part-of .ensures .slots-are) (found-is t c)
 
-relocate-enum-told : (t : ℕ) → relocate-lts.Need-enum-told (
-  function-slots-reads.Asked,
-  function-slots-reads.Learnt,
-  function-section-reads.Asked,
-  function-section-reads.Learnt,
-  function-offset-reads.Asked,
-  function-offset-reads.Learnt,
-  part-of-reads.Asked,
-  part-of-reads.Learnt,
-  relocations-before-reads.Asked,
-  relocations-before-reads.Learnt,
-  offset-at-reads.Asked,
-  offset-at-reads.Learnt,
-  slot-at-reads.Asked,
-  slot-at-reads.Learnt,
-  place-reads.Asked,
-  place-reads.Learnt,
-  is-here-reads.Asked,
-  is-here-reads.Learnt,
-  is-before-reads.Asked,
-  is-before-reads.Learnt,
-  resolve-reads.Asked,
-  resolve-reads.Learnt,
-  placed-below t,
-  placed.Post,
-  point-reads.Asked,
-  point-reads.Learnt,
-)
+relocate-enum-told : (t : ℕ) → relocate-lts.Need-enum-told (relocate-claims t)
     (relocate-at t)
     relocate.Post
     relocate-Inv-loop2
@@ -1073,34 +423,7 @@ relocate-enum-told : (t : ℕ) → relocate-lts.Need-enum-told (
     relocate-μ-loop
 relocate-enum-told t c = search needs
 
-relocate-add-slot : (t : ℕ) → relocate-lts.Need-add-slot (
-  function-slots-reads.Asked,
-  function-slots-reads.Learnt,
-  function-section-reads.Asked,
-  function-section-reads.Learnt,
-  function-offset-reads.Asked,
-  function-offset-reads.Learnt,
-  part-of-reads.Asked,
-  part-of-reads.Learnt,
-  relocations-before-reads.Asked,
-  relocations-before-reads.Learnt,
-  offset-at-reads.Asked,
-  offset-at-reads.Learnt,
-  slot-at-reads.Asked,
-  slot-at-reads.Learnt,
-  place-reads.Asked,
-  place-reads.Learnt,
-  is-here-reads.Asked,
-  is-here-reads.Learnt,
-  is-before-reads.Asked,
-  is-before-reads.Learnt,
-  resolve-reads.Asked,
-  resolve-reads.Learnt,
-  placed-below t,
-  placed.Post,
-  point-reads.Asked,
-  point-reads.Learnt,
-)
+relocate-add-slot : (t : ℕ) → relocate-lts.Need-add-slot (relocate-claims t)
     (relocate-at t)
     relocate.Post
     relocate-Inv-loop2
@@ -1109,34 +432,7 @@ relocate-add-slot : (t : ℕ) → relocate-lts.Need-add-slot (
     relocate-μ-loop
 relocate-add-slot t c = omega (arith, (ways.slots-low (c .before .before .before .before .before .before .before .before .before .before .before .before .before .before .before .before .before .before .before .before .before .before .before .before .before .pre .1)), (ways.turn-of (c .before .before .before .before .before .before .before .before .before .before .before .before .before .before .function-slots .ensures) (c .before .before .before .before .before .before .before .before .loop-test .taken)))
 
-relocate-loop-less : (t : ℕ) → relocate-lts.Need-loop-less (
-  function-slots-reads.Asked,
-  function-slots-reads.Learnt,
-  function-section-reads.Asked,
-  function-section-reads.Learnt,
-  function-offset-reads.Asked,
-  function-offset-reads.Learnt,
-  part-of-reads.Asked,
-  part-of-reads.Learnt,
-  relocations-before-reads.Asked,
-  relocations-before-reads.Learnt,
-  offset-at-reads.Asked,
-  offset-at-reads.Learnt,
-  slot-at-reads.Asked,
-  slot-at-reads.Learnt,
-  place-reads.Asked,
-  place-reads.Learnt,
-  is-here-reads.Asked,
-  is-here-reads.Learnt,
-  is-before-reads.Asked,
-  is-before-reads.Learnt,
-  resolve-reads.Asked,
-  resolve-reads.Learnt,
-  placed-below t,
-  placed.Post,
-  point-reads.Asked,
-  point-reads.Learnt,
-)
+relocate-loop-less : (t : ℕ) → relocate-lts.Need-loop-less (relocate-claims t)
     (relocate-at t)
     relocate.Post
     relocate-Inv-loop2
@@ -1145,34 +441,7 @@ relocate-loop-less : (t : ℕ) → relocate-lts.Need-loop-less (
     relocate-μ-loop
 relocate-loop-less t c = omega (arith, (ways.turn-of (c .before .before .before .before .before .before .before .before .before .before .before .before .before .before .function-slots .ensures) (c .before .before .before .before .before .before .before .before .loop-test .taken)), c .before .before .before .before .before .before .before .before .loop-test .taken)
 
-relocate-loop-again : (t : ℕ) → relocate-lts.Need-loop-again (
-  function-slots-reads.Asked,
-  function-slots-reads.Learnt,
-  function-section-reads.Asked,
-  function-section-reads.Learnt,
-  function-offset-reads.Asked,
-  function-offset-reads.Learnt,
-  part-of-reads.Asked,
-  part-of-reads.Learnt,
-  relocations-before-reads.Asked,
-  relocations-before-reads.Learnt,
-  offset-at-reads.Asked,
-  offset-at-reads.Learnt,
-  slot-at-reads.Asked,
-  slot-at-reads.Learnt,
-  place-reads.Asked,
-  place-reads.Learnt,
-  is-here-reads.Asked,
-  is-here-reads.Learnt,
-  is-before-reads.Asked,
-  is-before-reads.Learnt,
-  resolve-reads.Asked,
-  resolve-reads.Learnt,
-  placed-below t,
-  placed.Post,
-  point-reads.Asked,
-  point-reads.Learnt,
-)
+relocate-loop-again : (t : ℕ) → relocate-lts.Need-loop-again (relocate-claims t)
     (relocate-at t)
     relocate.Post
     relocate-Inv-loop2
@@ -1181,34 +450,7 @@ relocate-loop-again : (t : ℕ) → relocate-lts.Need-loop-again (
     relocate-μ-loop
 relocate-loop-again t c = (ways.on-copied (c .before .before .before .before .before .before .before .before .before .before .before .before .before .before .before .before .before .before .before .before .before .before .before .before .before .pre .1) (c .before .before .before .before .before .before .before .before .before .loop .inv .0) (ways.turn-of (c .before .before .before .before .before .before .before .before .before .before .before .before .before .before .function-slots .ensures) (c .before .before .before .before .before .before .before .before .loop-test .taken)) (rw (c .enum-told .given .1) at (c .before .before .resolve .ensures)), (c .before .before .before .before .loop2 .inv .0, ways.behind-next (c .before .before .before .before .before .before .before .before .before .before .before .before .before .before .before .before .before .before .before .before .before .before .before .before .before .pre .1) (c .before .before .before .before .before .before .before .before .before .loop .slot) (c .before .before .before .before .loop2 .cur) (c .before .before .before .before .loop2 .inv .1)))
 
-relocate-enum-known-meaning : (t : ℕ) → relocate-lts.Need-enum-known-meaning (
-  function-slots-reads.Asked,
-  function-slots-reads.Learnt,
-  function-section-reads.Asked,
-  function-section-reads.Learnt,
-  function-offset-reads.Asked,
-  function-offset-reads.Learnt,
-  part-of-reads.Asked,
-  part-of-reads.Learnt,
-  relocations-before-reads.Asked,
-  relocations-before-reads.Learnt,
-  offset-at-reads.Asked,
-  offset-at-reads.Learnt,
-  slot-at-reads.Asked,
-  slot-at-reads.Learnt,
-  place-reads.Asked,
-  place-reads.Learnt,
-  is-here-reads.Asked,
-  is-here-reads.Learnt,
-  is-before-reads.Asked,
-  is-before-reads.Learnt,
-  resolve-reads.Asked,
-  resolve-reads.Learnt,
-  placed-below t,
-  placed.Post,
-  point-reads.Asked,
-  point-reads.Learnt,
-)
+relocate-enum-known-meaning : (t : ℕ) → relocate-lts.Need-enum-known-meaning (relocate-claims t)
     (relocate-at t)
     relocate.Post
     relocate-Inv-loop2
@@ -1217,34 +459,7 @@ relocate-enum-known-meaning : (t : ℕ) → relocate-lts.Need-enum-known-meaning
     relocate-μ-loop
 relocate-enum-known-meaning t c = search needs
 
-relocate-same-length : (t : ℕ) → relocate-lts.Need-same-length (
-  function-slots-reads.Asked,
-  function-slots-reads.Learnt,
-  function-section-reads.Asked,
-  function-section-reads.Learnt,
-  function-offset-reads.Asked,
-  function-offset-reads.Learnt,
-  part-of-reads.Asked,
-  part-of-reads.Learnt,
-  relocations-before-reads.Asked,
-  relocations-before-reads.Learnt,
-  offset-at-reads.Asked,
-  offset-at-reads.Learnt,
-  slot-at-reads.Asked,
-  slot-at-reads.Learnt,
-  place-reads.Asked,
-  place-reads.Learnt,
-  is-here-reads.Asked,
-  is-here-reads.Learnt,
-  is-before-reads.Asked,
-  is-before-reads.Learnt,
-  resolve-reads.Asked,
-  resolve-reads.Learnt,
-  placed-below t,
-  placed.Post,
-  point-reads.Asked,
-  point-reads.Learnt,
-)
+relocate-same-length : (t : ℕ) → relocate-lts.Need-same-length (relocate-claims t)
     (relocate-at t)
     relocate.Post
     relocate-Inv-loop2
@@ -1253,34 +468,7 @@ relocate-same-length : (t : ℕ) → relocate-lts.Need-same-length (
     relocate-μ-loop
 relocate-same-length t c = ap (λ x. x .image) (c .before .before .before .before .before .before .before .before .before .before .loop .inv .0 .lengths)
 
-relocate-same-length-2 : (t : ℕ) → relocate-lts.Need-same-length-2 (
-  function-slots-reads.Asked,
-  function-slots-reads.Learnt,
-  function-section-reads.Asked,
-  function-section-reads.Learnt,
-  function-offset-reads.Asked,
-  function-offset-reads.Learnt,
-  part-of-reads.Asked,
-  part-of-reads.Learnt,
-  relocations-before-reads.Asked,
-  relocations-before-reads.Learnt,
-  offset-at-reads.Asked,
-  offset-at-reads.Learnt,
-  slot-at-reads.Asked,
-  slot-at-reads.Learnt,
-  place-reads.Asked,
-  place-reads.Learnt,
-  is-here-reads.Asked,
-  is-here-reads.Learnt,
-  is-before-reads.Asked,
-  is-before-reads.Learnt,
-  resolve-reads.Asked,
-  resolve-reads.Learnt,
-  placed-below t,
-  placed.Post,
-  point-reads.Asked,
-  point-reads.Learnt,
-)
+relocate-same-length-2 : (t : ℕ) → relocate-lts.Need-same-length-2 (relocate-claims t)
     (relocate-at t)
     relocate.Post
     relocate-Inv-loop2
@@ -1289,34 +477,7 @@ relocate-same-length-2 : (t : ℕ) → relocate-lts.Need-same-length-2 (
     relocate-μ-loop
 relocate-same-length-2 t c = ap (λ x. x .funcInfo) (c .before .before .before .before .before .before .before .before .before .before .loop .inv .0 .lengths)
 
-relocate-same-length-3 : (t : ℕ) → relocate-lts.Need-same-length-3 (
-  function-slots-reads.Asked,
-  function-slots-reads.Learnt,
-  function-section-reads.Asked,
-  function-section-reads.Learnt,
-  function-offset-reads.Asked,
-  function-offset-reads.Learnt,
-  part-of-reads.Asked,
-  part-of-reads.Learnt,
-  relocations-before-reads.Asked,
-  relocations-before-reads.Learnt,
-  offset-at-reads.Asked,
-  offset-at-reads.Learnt,
-  slot-at-reads.Asked,
-  slot-at-reads.Learnt,
-  place-reads.Asked,
-  place-reads.Learnt,
-  is-here-reads.Asked,
-  is-here-reads.Learnt,
-  is-before-reads.Asked,
-  is-before-reads.Learnt,
-  resolve-reads.Asked,
-  resolve-reads.Learnt,
-  placed-below t,
-  placed.Post,
-  point-reads.Asked,
-  point-reads.Learnt,
-)
+relocate-same-length-3 : (t : ℕ) → relocate-lts.Need-same-length-3 (relocate-claims t)
     (relocate-at t)
     relocate.Post
     relocate-Inv-loop2
@@ -1325,34 +486,7 @@ relocate-same-length-3 : (t : ℕ) → relocate-lts.Need-same-length-3 (
     relocate-μ-loop
 relocate-same-length-3 t c = ap (λ x. x .lineInfo) (c .before .before .before .before .before .before .before .before .before .before .loop .inv .0 .lengths)
 
-relocate-returns : (t : ℕ) → relocate-lts.Need-returns (
-  function-slots-reads.Asked,
-  function-slots-reads.Learnt,
-  function-section-reads.Asked,
-  function-section-reads.Learnt,
-  function-offset-reads.Asked,
-  function-offset-reads.Learnt,
-  part-of-reads.Asked,
-  part-of-reads.Learnt,
-  relocations-before-reads.Asked,
-  relocations-before-reads.Learnt,
-  offset-at-reads.Asked,
-  offset-at-reads.Learnt,
-  slot-at-reads.Asked,
-  slot-at-reads.Learnt,
-  place-reads.Asked,
-  place-reads.Learnt,
-  is-here-reads.Asked,
-  is-here-reads.Learnt,
-  is-before-reads.Asked,
-  is-before-reads.Learnt,
-  resolve-reads.Asked,
-  resolve-reads.Learnt,
-  placed-below t,
-  placed.Post,
-  point-reads.Asked,
-  point-reads.Learnt,
-)
+relocate-returns : (t : ℕ) → relocate-lts.Need-returns (relocate-claims t)
     (relocate-at t)
     relocate.Post
     relocate-Inv-loop2
@@ -1361,34 +495,7 @@ relocate-returns : (t : ℕ) → relocate-lts.Need-returns (
     relocate-μ-loop
 relocate-returns t c = ways.on-refused (c .before .before .before .before .before .before .before .before .before .before .before .before .before .before .before .before .before .before .before .before .before .before .before .before .before .before .pre .1) (c .before .before .before .before .before .before .before .before .before .before .loop .inv .0) (ways.turn-of (c .before .before .before .before .before .before .before .before .before .before .before .before .before .before .before .function-slots .ensures) (c .before .before .before .before .before .before .before .before .before .loop-test .taken)) _ (rw (c .before .meaning .given .1) at (c .before .before .before .resolve .ensures))
 
-relocate-enum-known-meaning-2 : (t : ℕ) → relocate-lts.Need-enum-known-meaning-2 (
-  function-slots-reads.Asked,
-  function-slots-reads.Learnt,
-  function-section-reads.Asked,
-  function-section-reads.Learnt,
-  function-offset-reads.Asked,
-  function-offset-reads.Learnt,
-  part-of-reads.Asked,
-  part-of-reads.Learnt,
-  relocations-before-reads.Asked,
-  relocations-before-reads.Learnt,
-  offset-at-reads.Asked,
-  offset-at-reads.Learnt,
-  slot-at-reads.Asked,
-  slot-at-reads.Learnt,
-  place-reads.Asked,
-  place-reads.Learnt,
-  is-here-reads.Asked,
-  is-here-reads.Learnt,
-  is-before-reads.Asked,
-  is-before-reads.Learnt,
-  resolve-reads.Asked,
-  resolve-reads.Learnt,
-  placed-below t,
-  placed.Post,
-  point-reads.Asked,
-  point-reads.Learnt,
-)
+relocate-enum-known-meaning-2 : (t : ℕ) → relocate-lts.Need-enum-known-meaning-2 (relocate-claims t)
     (relocate-at t)
     relocate.Post
     relocate-Inv-loop2
@@ -1397,34 +504,7 @@ relocate-enum-known-meaning-2 : (t : ℕ) → relocate-lts.Need-enum-known-meani
     relocate-μ-loop
 relocate-enum-known-meaning-2 t c = search needs
 
-relocate-placed-requires : (t : ℕ) → relocate-lts.Need-placed-requires (
-  function-slots-reads.Asked,
-  function-slots-reads.Learnt,
-  function-section-reads.Asked,
-  function-section-reads.Learnt,
-  function-offset-reads.Asked,
-  function-offset-reads.Learnt,
-  part-of-reads.Asked,
-  part-of-reads.Learnt,
-  relocations-before-reads.Asked,
-  relocations-before-reads.Learnt,
-  offset-at-reads.Asked,
-  offset-at-reads.Learnt,
-  slot-at-reads.Asked,
-  slot-at-reads.Learnt,
-  place-reads.Asked,
-  place-reads.Learnt,
-  is-here-reads.Asked,
-  is-here-reads.Learnt,
-  is-before-reads.Asked,
-  is-before-reads.Learnt,
-  resolve-reads.Asked,
-  resolve-reads.Learnt,
-  placed-below t,
-  placed.Post,
-  point-reads.Asked,
-  point-reads.Learnt,
-)
+relocate-placed-requires : (t : ℕ) → relocate-lts.Need-placed-requires (relocate-claims t)
     (relocate-at t)
     relocate.Post
     relocate-Inv-loop2
@@ -1433,34 +513,7 @@ relocate-placed-requires : (t : ℕ) → relocate-lts.Need-placed-requires (
     relocate-μ-loop
 relocate-placed-requires t c κs = (rw (← c .before .before .before .before .before .before .before .before .before .before .before .before .before .before .before .before .before .before .before .before .before .before .before .before .before .before .before .before .before .pre .0) (omega (arith, steps.visit-falls (c .before .before .before .before .before .before .before .before .before .before .before .before .before .before .before .before .before .before .before .before .before .before .before .before .before .before .before .before .before .pre .1) (c .before .before .before .before .before .before .before .before .before .before .before .before .before .loop .inv .0))), ways.asks-placed (c .before .before .before .before .before .before .before .before .before .before .before .before .before .before .before .before .before .before .before .before .before .before .before .before .before .before .before .before .before .pre .1) (c .before .before .before .before .before .before .before .before .before .before .before .before .before .loop .inv .0) (ways.turn-of (c .before .before .before .before .before .before .before .before .before .before .before .before .before .before .before .before .before .before .function-slots .ensures) (c .before .before .before .before .before .before .before .before .before .before .before .before .loop-test .taken)) (c .before .before .before .before .meaning2 .given .0 .0) (c .before .before .before .before .meaning2 .given .0 .1 .0) (rw (c .before .before .before .before .meaning2 .given .1) at (c .before .before .before .before .before .before .resolve .ensures)))
 
-relocate-enum-told-2 : (t : ℕ) → relocate-lts.Need-enum-told-2 (
-  function-slots-reads.Asked,
-  function-slots-reads.Learnt,
-  function-section-reads.Asked,
-  function-section-reads.Learnt,
-  function-offset-reads.Asked,
-  function-offset-reads.Learnt,
-  part-of-reads.Asked,
-  part-of-reads.Learnt,
-  relocations-before-reads.Asked,
-  relocations-before-reads.Learnt,
-  offset-at-reads.Asked,
-  offset-at-reads.Learnt,
-  slot-at-reads.Asked,
-  slot-at-reads.Learnt,
-  place-reads.Asked,
-  place-reads.Learnt,
-  is-here-reads.Asked,
-  is-here-reads.Learnt,
-  is-before-reads.Asked,
-  is-before-reads.Learnt,
-  resolve-reads.Asked,
-  resolve-reads.Learnt,
-  placed-below t,
-  placed.Post,
-  point-reads.Asked,
-  point-reads.Learnt,
-)
+relocate-enum-told-2 : (t : ℕ) → relocate-lts.Need-enum-told-2 (relocate-claims t)
     (relocate-at t)
     relocate.Post
     relocate-Inv-loop2
@@ -1469,34 +522,7 @@ relocate-enum-told-2 : (t : ℕ) → relocate-lts.Need-enum-told-2 (
     relocate-μ-loop
 relocate-enum-told-2 t c = search needs
 
-relocate-same-length-4 : (t : ℕ) → relocate-lts.Need-same-length-4 (
-  function-slots-reads.Asked,
-  function-slots-reads.Learnt,
-  function-section-reads.Asked,
-  function-section-reads.Learnt,
-  function-offset-reads.Asked,
-  function-offset-reads.Learnt,
-  part-of-reads.Asked,
-  part-of-reads.Learnt,
-  relocations-before-reads.Asked,
-  relocations-before-reads.Learnt,
-  offset-at-reads.Asked,
-  offset-at-reads.Learnt,
-  slot-at-reads.Asked,
-  slot-at-reads.Learnt,
-  place-reads.Asked,
-  place-reads.Learnt,
-  is-here-reads.Asked,
-  is-here-reads.Learnt,
-  is-before-reads.Asked,
-  is-before-reads.Learnt,
-  resolve-reads.Asked,
-  resolve-reads.Learnt,
-  placed-below t,
-  placed.Post,
-  point-reads.Asked,
-  point-reads.Learnt,
-)
+relocate-same-length-4 : (t : ℕ) → relocate-lts.Need-same-length-4 (relocate-claims t)
     (relocate-at t)
     relocate.Post
     relocate-Inv-loop2
@@ -1505,34 +531,7 @@ relocate-same-length-4 : (t : ℕ) → relocate-lts.Need-same-length-4 (
     relocate-μ-loop
 relocate-same-length-4 t c = ap (λ x. x .image) ((c .before .before .before .before .before .before .before .placed .ensures) .gives .lengths ∙ c .before .before .before .before .before .before .before .before .before .before .before .before .before .before .before .before .before .before .before .before .before .loop .inv .0 .lengths)
 
-relocate-same-length-5 : (t : ℕ) → relocate-lts.Need-same-length-5 (
-  function-slots-reads.Asked,
-  function-slots-reads.Learnt,
-  function-section-reads.Asked,
-  function-section-reads.Learnt,
-  function-offset-reads.Asked,
-  function-offset-reads.Learnt,
-  part-of-reads.Asked,
-  part-of-reads.Learnt,
-  relocations-before-reads.Asked,
-  relocations-before-reads.Learnt,
-  offset-at-reads.Asked,
-  offset-at-reads.Learnt,
-  slot-at-reads.Asked,
-  slot-at-reads.Learnt,
-  place-reads.Asked,
-  place-reads.Learnt,
-  is-here-reads.Asked,
-  is-here-reads.Learnt,
-  is-before-reads.Asked,
-  is-before-reads.Learnt,
-  resolve-reads.Asked,
-  resolve-reads.Learnt,
-  placed-below t,
-  placed.Post,
-  point-reads.Asked,
-  point-reads.Learnt,
-)
+relocate-same-length-5 : (t : ℕ) → relocate-lts.Need-same-length-5 (relocate-claims t)
     (relocate-at t)
     relocate.Post
     relocate-Inv-loop2
@@ -1541,34 +540,7 @@ relocate-same-length-5 : (t : ℕ) → relocate-lts.Need-same-length-5 (
     relocate-μ-loop
 relocate-same-length-5 t c = ap (λ x. x .funcInfo) ((c .before .before .before .before .before .before .before .placed .ensures) .gives .lengths ∙ c .before .before .before .before .before .before .before .before .before .before .before .before .before .before .before .before .before .before .before .before .before .loop .inv .0 .lengths)
 
-relocate-same-length-6 : (t : ℕ) → relocate-lts.Need-same-length-6 (
-  function-slots-reads.Asked,
-  function-slots-reads.Learnt,
-  function-section-reads.Asked,
-  function-section-reads.Learnt,
-  function-offset-reads.Asked,
-  function-offset-reads.Learnt,
-  part-of-reads.Asked,
-  part-of-reads.Learnt,
-  relocations-before-reads.Asked,
-  relocations-before-reads.Learnt,
-  offset-at-reads.Asked,
-  offset-at-reads.Learnt,
-  slot-at-reads.Asked,
-  slot-at-reads.Learnt,
-  place-reads.Asked,
-  place-reads.Learnt,
-  is-here-reads.Asked,
-  is-here-reads.Learnt,
-  is-before-reads.Asked,
-  is-before-reads.Learnt,
-  resolve-reads.Asked,
-  resolve-reads.Learnt,
-  placed-below t,
-  placed.Post,
-  point-reads.Asked,
-  point-reads.Learnt,
-)
+relocate-same-length-6 : (t : ℕ) → relocate-lts.Need-same-length-6 (relocate-claims t)
     (relocate-at t)
     relocate.Post
     relocate-Inv-loop2
@@ -1577,34 +549,7 @@ relocate-same-length-6 : (t : ℕ) → relocate-lts.Need-same-length-6 (
     relocate-μ-loop
 relocate-same-length-6 t c = ap (λ x. x .lineInfo) ((c .before .before .before .before .before .before .before .placed .ensures) .gives .lengths ∙ c .before .before .before .before .before .before .before .before .before .before .before .before .before .before .before .before .before .before .before .before .before .loop .inv .0 .lengths)
 
-relocate-returns-2 : (t : ℕ) → relocate-lts.Need-returns-2 (
-  function-slots-reads.Asked,
-  function-slots-reads.Learnt,
-  function-section-reads.Asked,
-  function-section-reads.Learnt,
-  function-offset-reads.Asked,
-  function-offset-reads.Learnt,
-  part-of-reads.Asked,
-  part-of-reads.Learnt,
-  relocations-before-reads.Asked,
-  relocations-before-reads.Learnt,
-  offset-at-reads.Asked,
-  offset-at-reads.Learnt,
-  slot-at-reads.Asked,
-  slot-at-reads.Learnt,
-  place-reads.Asked,
-  place-reads.Learnt,
-  is-here-reads.Asked,
-  is-here-reads.Learnt,
-  is-before-reads.Asked,
-  is-before-reads.Learnt,
-  resolve-reads.Asked,
-  resolve-reads.Learnt,
-  placed-below t,
-  placed.Post,
-  point-reads.Asked,
-  point-reads.Learnt,
-)
+relocate-returns-2 : (t : ℕ) → relocate-lts.Need-returns-2 (relocate-claims t)
     (relocate-at t)
     relocate.Post
     relocate-Inv-loop2
@@ -1613,34 +558,7 @@ relocate-returns-2 : (t : ℕ) → relocate-lts.Need-returns-2 (
     relocate-μ-loop
 relocate-returns-2 t c = ways.out-refused (c .before .before .before .before .before .before .before .before .before .before .before .before .before .before .before .before .before .before .before .before .before .before .before .before .before .before .before .before .before .before .before .before .before .before .before .before .before .pre .1) (c .before .before .before .before .before .before .before .before .before .before .before .before .before .before .before .before .before .before .before .before .before .loop .inv .0) (ways.turn-of (c .before .before .before .before .before .before .before .before .before .before .before .before .before .before .before .before .before .before .before .before .before .before .before .before .before .before .function-slots .ensures) (c .before .before .before .before .before .before .before .before .before .before .before .before .before .before .before .before .before .before .before .before .loop-test .taken)) (c .before .before .before .before .before .before .before .before .before .before .before .before .meaning2 .given .0 .0) (c .before .before .before .before .before .before .before .before .before .before .before .before .meaning2 .given .0 .1 .0) (rw (c .before .before .before .before .before .before .before .before .before .before .before .before .meaning2 .given .1) at (c .before .before .before .before .before .before .before .before .before .before .before .before .before .before .resolve .ensures)) (c .before .before .before .before .before .before .before .placed .ensures) (not-done (c .before .before .before .before .before .before .before .placed .result .answer) (c .match2 .keys2))
 
-relocate-add-slot-at : (t : ℕ) → relocate-lts.Need-add-slot-at (
-  function-slots-reads.Asked,
-  function-slots-reads.Learnt,
-  function-section-reads.Asked,
-  function-section-reads.Learnt,
-  function-offset-reads.Asked,
-  function-offset-reads.Learnt,
-  part-of-reads.Asked,
-  part-of-reads.Learnt,
-  relocations-before-reads.Asked,
-  relocations-before-reads.Learnt,
-  offset-at-reads.Asked,
-  offset-at-reads.Learnt,
-  slot-at-reads.Asked,
-  slot-at-reads.Learnt,
-  place-reads.Asked,
-  place-reads.Learnt,
-  is-here-reads.Asked,
-  is-here-reads.Learnt,
-  is-before-reads.Asked,
-  is-before-reads.Learnt,
-  resolve-reads.Asked,
-  resolve-reads.Learnt,
-  placed-below t,
-  placed.Post,
-  point-reads.Asked,
-  point-reads.Learnt,
-)
+relocate-add-slot-at : (t : ℕ) → relocate-lts.Need-add-slot-at (relocate-claims t)
     (relocate-at t)
     relocate.Post
     relocate-Inv-loop2
@@ -1649,34 +567,7 @@ relocate-add-slot-at : (t : ℕ) → relocate-lts.Need-add-slot-at (
     relocate-μ-loop
 relocate-add-slot-at t c = omega (arith, ways.here-low (c .before .before .before .before .before .before .before .before .before .before .before .before .before .before .before .before .before .before .before .before .before .before .before .before .before .before .before .before .before .before .before .before .before .before .before .before .before .before .before .before .pre .1) (c .before .before .before .before .before .before .before .before .before .before .before .before .before .before .before .before .before .before .before .before .before .before .before .before .loop .inv .0) (ways.turn-of (c .before .before .before .before .before .before .before .before .before .before .before .before .before .before .before .before .before .before .before .before .before .before .before .before .before .before .before .before .before .function-slots .ensures) (c .before .before .before .before .before .before .before .before .before .before .before .before .before .before .before .before .before .before .before .before .before .before .before .loop-test .taken)) (c .before .before .before .before .before .before .before .before .before .before .before .before .before .before .before .meaning2 .given .0 .0) (c .before .before .before .before .before .before .before .before .before .before .before .before .before .before .before .meaning2 .given .0 .1 .0) (rw (c .before .before .before .before .before .before .before .before .before .before .before .before .before .before .before .meaning2 .given .1) at (c .before .before .before .before .before .before .before .before .before .before .before .before .before .before .before .before .before .resolve .ensures)) (c .before .before .before .before .before .before .before .before .before .before .placed .ensures) (ap (λ x. replyOf x .number) (c .before .before .enum-told2 .given .1)))
 
-relocate-slot-at-requires-2 : (t : ℕ) → relocate-lts.Need-slot-at-requires-2 (
-  function-slots-reads.Asked,
-  function-slots-reads.Learnt,
-  function-section-reads.Asked,
-  function-section-reads.Learnt,
-  function-offset-reads.Asked,
-  function-offset-reads.Learnt,
-  part-of-reads.Asked,
-  part-of-reads.Learnt,
-  relocations-before-reads.Asked,
-  relocations-before-reads.Learnt,
-  offset-at-reads.Asked,
-  offset-at-reads.Learnt,
-  slot-at-reads.Asked,
-  slot-at-reads.Learnt,
-  place-reads.Asked,
-  place-reads.Learnt,
-  is-here-reads.Asked,
-  is-here-reads.Learnt,
-  is-before-reads.Asked,
-  is-before-reads.Learnt,
-  resolve-reads.Asked,
-  resolve-reads.Learnt,
-  placed-below t,
-  placed.Post,
-  point-reads.Asked,
-  point-reads.Learnt,
-)
+relocate-slot-at-requires-2 : (t : ℕ) → relocate-lts.Need-slot-at-requires-2 (relocate-claims t)
     (relocate-at t)
     relocate.Post
     relocate-Inv-loop2
@@ -1685,34 +576,7 @@ relocate-slot-at-requires-2 : (t : ℕ) → relocate-lts.Need-slot-at-requires-2
     relocate-μ-loop
 relocate-slot-at-requires-2 t c κs = search needs
 
-relocate-mul-slot-at : (t : ℕ) → relocate-lts.Need-mul-slot-at (
-  function-slots-reads.Asked,
-  function-slots-reads.Learnt,
-  function-section-reads.Asked,
-  function-section-reads.Learnt,
-  function-offset-reads.Asked,
-  function-offset-reads.Learnt,
-  part-of-reads.Asked,
-  part-of-reads.Learnt,
-  relocations-before-reads.Asked,
-  relocations-before-reads.Learnt,
-  offset-at-reads.Asked,
-  offset-at-reads.Learnt,
-  slot-at-reads.Asked,
-  slot-at-reads.Learnt,
-  place-reads.Asked,
-  place-reads.Learnt,
-  is-here-reads.Asked,
-  is-here-reads.Learnt,
-  is-before-reads.Asked,
-  is-before-reads.Learnt,
-  resolve-reads.Asked,
-  resolve-reads.Learnt,
-  placed-below t,
-  placed.Post,
-  point-reads.Asked,
-  point-reads.Learnt,
-)
+relocate-mul-slot-at : (t : ℕ) → relocate-lts.Need-mul-slot-at (relocate-claims t)
     (relocate-at t)
     relocate.Post
     relocate-Inv-loop2
@@ -1721,34 +585,7 @@ relocate-mul-slot-at : (t : ℕ) → relocate-lts.Need-mul-slot-at (
     relocate-μ-loop
 relocate-mul-slot-at t c = omega (arith, ways.row-small (c .before .before .before .before .before .before .before .before .before .before .before .before .before .before .before .before .before .before .before .before .before .before .before .before .before .before .before .before .before .before .before .before .before .before .before .before .before .before .before .before .before .pre .1 .asks .checked) (ways.asks-placed (c .before .before .before .before .before .before .before .before .before .before .before .before .before .before .before .before .before .before .before .before .before .before .before .before .before .before .before .before .before .before .before .before .before .before .before .before .before .before .before .before .before .pre .1) (c .before .before .before .before .before .before .before .before .before .before .before .before .before .before .before .before .before .before .before .before .before .before .before .before .before .loop .inv .0) (ways.turn-of (c .before .before .before .before .before .before .before .before .before .before .before .before .before .before .before .before .before .before .before .before .before .before .before .before .before .before .before .before .before .before .function-slots .ensures) (c .before .before .before .before .before .before .before .before .before .before .before .before .before .before .before .before .before .before .before .before .before .before .before .before .loop-test .taken)) (c .before .before .before .before .before .before .before .before .before .before .before .before .before .before .before .before .meaning2 .given .0 .0) (c .before .before .before .before .before .before .before .before .before .before .before .before .before .before .before .before .meaning2 .given .0 .1 .0) (rw (c .before .before .before .before .before .before .before .before .before .before .before .before .before .before .before .before .meaning2 .given .1) at (c .before .before .before .before .before .before .before .before .before .before .before .before .before .before .before .before .before .before .resolve .ensures)) .row-in))
 
-relocate-element-copy-out-slot-at : (t : ℕ) → relocate-lts.Need-element-copy-out-slot-at (
-  function-slots-reads.Asked,
-  function-slots-reads.Learnt,
-  function-section-reads.Asked,
-  function-section-reads.Learnt,
-  function-offset-reads.Asked,
-  function-offset-reads.Learnt,
-  part-of-reads.Asked,
-  part-of-reads.Learnt,
-  relocations-before-reads.Asked,
-  relocations-before-reads.Learnt,
-  offset-at-reads.Asked,
-  offset-at-reads.Learnt,
-  slot-at-reads.Asked,
-  slot-at-reads.Learnt,
-  place-reads.Asked,
-  place-reads.Learnt,
-  is-here-reads.Asked,
-  is-here-reads.Learnt,
-  is-before-reads.Asked,
-  is-before-reads.Learnt,
-  resolve-reads.Asked,
-  resolve-reads.Learnt,
-  placed-below t,
-  placed.Post,
-  point-reads.Asked,
-  point-reads.Learnt,
-)
+relocate-element-copy-out-slot-at : (t : ℕ) → relocate-lts.Need-element-copy-out-slot-at (relocate-claims t)
     (relocate-at t)
     relocate.Post
     relocate-Inv-loop2
@@ -1757,34 +594,7 @@ relocate-element-copy-out-slot-at : (t : ℕ) → relocate-lts.Need-element-copy
     relocate-μ-loop
 relocate-element-copy-out-slot-at t c = ways.row-small (c .before .before .before .before .before .before .before .before .before .before .before .before .before .before .before .before .before .before .before .before .before .before .before .before .before .before .before .before .before .before .before .before .before .before .before .before .before .before .before .before .before .pre .1 .asks .checked) (ways.asks-placed (c .before .before .before .before .before .before .before .before .before .before .before .before .before .before .before .before .before .before .before .before .before .before .before .before .before .before .before .before .before .before .before .before .before .before .before .before .before .before .before .before .before .pre .1) (c .before .before .before .before .before .before .before .before .before .before .before .before .before .before .before .before .before .before .before .before .before .before .before .before .before .loop .inv .0) (ways.turn-of (c .before .before .before .before .before .before .before .before .before .before .before .before .before .before .before .before .before .before .before .before .before .before .before .before .before .before .before .before .before .before .function-slots .ensures) (c .before .before .before .before .before .before .before .before .before .before .before .before .before .before .before .before .before .before .before .before .before .before .before .before .loop-test .taken)) (c .before .before .before .before .before .before .before .before .before .before .before .before .before .before .before .before .meaning2 .given .0 .0) (c .before .before .before .before .before .before .before .before .before .before .before .before .before .before .before .before .meaning2 .given .0 .1 .0) (rw (c .before .before .before .before .before .before .before .before .before .before .before .before .before .before .before .before .meaning2 .given .1) at (c .before .before .before .before .before .before .before .before .before .before .before .before .before .before .before .before .before .before .resolve .ensures)) .row-in)
 
-relocate-cast-slot-at : (t : ℕ) → relocate-lts.Need-cast-slot-at (
-  function-slots-reads.Asked,
-  function-slots-reads.Learnt,
-  function-section-reads.Asked,
-  function-section-reads.Learnt,
-  function-offset-reads.Asked,
-  function-offset-reads.Learnt,
-  part-of-reads.Asked,
-  part-of-reads.Learnt,
-  relocations-before-reads.Asked,
-  relocations-before-reads.Learnt,
-  offset-at-reads.Asked,
-  offset-at-reads.Learnt,
-  slot-at-reads.Asked,
-  slot-at-reads.Learnt,
-  place-reads.Asked,
-  place-reads.Learnt,
-  is-here-reads.Asked,
-  is-here-reads.Learnt,
-  is-before-reads.Asked,
-  is-before-reads.Learnt,
-  resolve-reads.Asked,
-  resolve-reads.Learnt,
-  placed-below t,
-  placed.Post,
-  point-reads.Asked,
-  point-reads.Learnt,
-)
+relocate-cast-slot-at : (t : ℕ) → relocate-lts.Need-cast-slot-at (relocate-claims t)
     (relocate-at t)
     relocate.Post
     relocate-Inv-loop2
@@ -1793,34 +603,7 @@ relocate-cast-slot-at : (t : ℕ) → relocate-lts.Need-cast-slot-at (
     relocate-μ-loop
 relocate-cast-slot-at t c = omega (arith, ways.start-low (c .before .before .before .before .before .before .before .before .before .before .before .before .before .before .before .before .before .before .before .before .before .before .before .before .before .before .before .before .before .before .before .before .before .before .before .before .before .before .before .before .before .before .pre .1) (c .before .before .before .before .before .before .before .before .before .before .before .before .before .before .before .before .before .before .before .before .before .before .before .before .before .before .loop .inv .0) (ways.turn-of (c .before .before .before .before .before .before .before .before .before .before .before .before .before .before .before .before .before .before .before .before .before .before .before .before .before .before .before .before .before .before .before .function-slots .ensures) (c .before .before .before .before .before .before .before .before .before .before .before .before .before .before .before .before .before .before .before .before .before .before .before .before .before .loop-test .taken)) (c .before .before .before .before .before .before .before .before .before .before .before .before .before .before .before .before .before .meaning2 .given .0 .0) (c .before .before .before .before .before .before .before .before .before .before .before .before .before .before .before .before .before .meaning2 .given .0 .1 .0) (rw (c .before .before .before .before .before .before .before .before .before .before .before .before .before .before .before .before .before .meaning2 .given .1) at (c .before .before .before .before .before .before .before .before .before .before .before .before .before .before .before .before .before .before .before .resolve .ensures)) (c .before .before .before .before .before .before .before .before .before .before .before .before .placed .ensures) (ap (λ x. replyOf x .number) (c .before .before .before .before .enum-told2 .given .1)))
 
-relocate-slot-at-requires-3 : (t : ℕ) → relocate-lts.Need-slot-at-requires-3 (
-  function-slots-reads.Asked,
-  function-slots-reads.Learnt,
-  function-section-reads.Asked,
-  function-section-reads.Learnt,
-  function-offset-reads.Asked,
-  function-offset-reads.Learnt,
-  part-of-reads.Asked,
-  part-of-reads.Learnt,
-  relocations-before-reads.Asked,
-  relocations-before-reads.Learnt,
-  offset-at-reads.Asked,
-  offset-at-reads.Learnt,
-  slot-at-reads.Asked,
-  slot-at-reads.Learnt,
-  place-reads.Asked,
-  place-reads.Learnt,
-  is-here-reads.Asked,
-  is-here-reads.Learnt,
-  is-before-reads.Asked,
-  is-before-reads.Learnt,
-  resolve-reads.Asked,
-  resolve-reads.Learnt,
-  placed-below t,
-  placed.Post,
-  point-reads.Asked,
-  point-reads.Learnt,
-)
+relocate-slot-at-requires-3 : (t : ℕ) → relocate-lts.Need-slot-at-requires-3 (relocate-claims t)
     (relocate-at t)
     relocate.Post
     relocate-Inv-loop2
@@ -1829,34 +612,7 @@ relocate-slot-at-requires-3 : (t : ℕ) → relocate-lts.Need-slot-at-requires-3
     relocate-μ-loop
 relocate-slot-at-requires-3 t c κs = search needs
 
-relocate-point-requires : (t : ℕ) → relocate-lts.Need-point-requires (
-  function-slots-reads.Asked,
-  function-slots-reads.Learnt,
-  function-section-reads.Asked,
-  function-section-reads.Learnt,
-  function-offset-reads.Asked,
-  function-offset-reads.Learnt,
-  part-of-reads.Asked,
-  part-of-reads.Learnt,
-  relocations-before-reads.Asked,
-  relocations-before-reads.Learnt,
-  offset-at-reads.Asked,
-  offset-at-reads.Learnt,
-  slot-at-reads.Asked,
-  slot-at-reads.Learnt,
-  place-reads.Asked,
-  place-reads.Learnt,
-  is-here-reads.Asked,
-  is-here-reads.Learnt,
-  is-before-reads.Asked,
-  is-before-reads.Learnt,
-  resolve-reads.Asked,
-  resolve-reads.Learnt,
-  placed-below t,
-  placed.Post,
-  point-reads.Asked,
-  point-reads.Learnt,
-)
+relocate-point-requires : (t : ℕ) → relocate-lts.Need-point-requires (relocate-claims t)
     (relocate-at t)
     relocate.Post
     relocate-Inv-loop2
@@ -1865,34 +621,7 @@ relocate-point-requires : (t : ℕ) → relocate-lts.Need-point-requires (
     relocate-μ-loop
 relocate-point-requires t c κs = (omega (arith, ways.here-room (c .before .before .before .before .before .before .before .before .before .before .before .before .before .before .before .before .before .before .before .before .before .before .before .before .before .before .before .before .before .before .before .before .before .before .before .before .before .before .before .before .before .before .before .pre .1) (c .before .before .before .before .before .before .before .before .before .before .before .before .before .before .before .before .before .before .before .before .before .before .before .before .before .before .before .loop .inv .0) (ways.turn-of (c .before .before .before .before .before .before .before .before .before .before .before .before .before .before .before .before .before .before .before .before .before .before .before .before .before .before .before .before .before .before .before .before .function-slots .ensures) (c .before .before .before .before .before .before .before .before .before .before .before .before .before .before .before .before .before .before .before .before .before .before .before .before .before .before .loop-test .taken)) (c .before .before .before .before .before .before .before .before .before .before .before .before .before .before .before .before .before .before .meaning2 .given .0 .0) (c .before .before .before .before .before .before .before .before .before .before .before .before .before .before .before .before .before .before .meaning2 .given .0 .1 .0) (rw (c .before .before .before .before .before .before .before .before .before .before .before .before .before .before .before .before .before .before .meaning2 .given .1) at (c .before .before .before .before .before .before .before .before .before .before .before .before .before .before .before .before .before .before .before .before .resolve .ensures)) (c .before .before .before .before .before .before .before .before .before .before .before .before .before .placed .ensures) (ap (λ x. replyOf x .number) (c .before .before .before .before .before .enum-told2 .given .1)), c .before .before .slot-at2 .ensures), (omega (arith, ways.start-low (c .before .before .before .before .before .before .before .before .before .before .before .before .before .before .before .before .before .before .before .before .before .before .before .before .before .before .before .before .before .before .before .before .before .before .before .before .before .before .before .before .before .before .before .pre .1) (c .before .before .before .before .before .before .before .before .before .before .before .before .before .before .before .before .before .before .before .before .before .before .before .before .before .before .before .loop .inv .0) (ways.turn-of (c .before .before .before .before .before .before .before .before .before .before .before .before .before .before .before .before .before .before .before .before .before .before .before .before .before .before .before .before .before .before .before .before .function-slots .ensures) (c .before .before .before .before .before .before .before .before .before .before .before .before .before .before .before .before .before .before .before .before .before .before .before .before .before .before .loop-test .taken)) (c .before .before .before .before .before .before .before .before .before .before .before .before .before .before .before .before .before .before .meaning2 .given .0 .0) (c .before .before .before .before .before .before .before .before .before .before .before .before .before .before .before .before .before .before .meaning2 .given .0 .1 .0) (rw (c .before .before .before .before .before .before .before .before .before .before .before .before .before .before .before .before .before .before .meaning2 .given .1) at (c .before .before .before .before .before .before .before .before .before .before .before .before .before .before .before .before .before .before .before .before .resolve .ensures)) (c .before .before .before .before .before .before .before .before .before .before .before .before .before .placed .ensures) (ap (λ x. replyOf x .number) (c .before .before .before .before .before .enum-told2 .given .1)), c .slot-at3 .ensures), omega (arith, ways.here-low (c .before .before .before .before .before .before .before .before .before .before .before .before .before .before .before .before .before .before .before .before .before .before .before .before .before .before .before .before .before .before .before .before .before .before .before .before .before .before .before .before .before .before .before .pre .1) (c .before .before .before .before .before .before .before .before .before .before .before .before .before .before .before .before .before .before .before .before .before .before .before .before .before .before .before .loop .inv .0) (ways.turn-of (c .before .before .before .before .before .before .before .before .before .before .before .before .before .before .before .before .before .before .before .before .before .before .before .before .before .before .before .before .before .before .before .before .function-slots .ensures) (c .before .before .before .before .before .before .before .before .before .before .before .before .before .before .before .before .before .before .before .before .before .before .before .before .before .before .loop-test .taken)) (c .before .before .before .before .before .before .before .before .before .before .before .before .before .before .before .before .before .before .meaning2 .given .0 .0) (c .before .before .before .before .before .before .before .before .before .before .before .before .before .before .before .before .before .before .meaning2 .given .0 .1 .0) (rw (c .before .before .before .before .before .before .before .before .before .before .before .before .before .before .before .before .before .before .meaning2 .given .1) at (c .before .before .before .before .before .before .before .before .before .before .before .before .before .before .before .before .before .before .before .before .resolve .ensures)) (c .before .before .before .before .before .before .before .before .before .before .before .before .before .placed .ensures) (ap (λ x. replyOf x .number) (c .before .before .before .before .before .enum-told2 .given .1)), c .before .before .slot-at2 .ensures)))
 
-relocate-add-slot-2 : (t : ℕ) → relocate-lts.Need-add-slot-2 (
-  function-slots-reads.Asked,
-  function-slots-reads.Learnt,
-  function-section-reads.Asked,
-  function-section-reads.Learnt,
-  function-offset-reads.Asked,
-  function-offset-reads.Learnt,
-  part-of-reads.Asked,
-  part-of-reads.Learnt,
-  relocations-before-reads.Asked,
-  relocations-before-reads.Learnt,
-  offset-at-reads.Asked,
-  offset-at-reads.Learnt,
-  slot-at-reads.Asked,
-  slot-at-reads.Learnt,
-  place-reads.Asked,
-  place-reads.Learnt,
-  is-here-reads.Asked,
-  is-here-reads.Learnt,
-  is-before-reads.Asked,
-  is-before-reads.Learnt,
-  resolve-reads.Asked,
-  resolve-reads.Learnt,
-  placed-below t,
-  placed.Post,
-  point-reads.Asked,
-  point-reads.Learnt,
-)
+relocate-add-slot-2 : (t : ℕ) → relocate-lts.Need-add-slot-2 (relocate-claims t)
     (relocate-at t)
     relocate.Post
     relocate-Inv-loop2
@@ -1901,34 +630,7 @@ relocate-add-slot-2 : (t : ℕ) → relocate-lts.Need-add-slot-2 (
     relocate-μ-loop
 relocate-add-slot-2 t c = omega (arith, (ways.slots-low (c .before .before .before .before .before .before .before .before .before .before .before .before .before .before .before .before .before .before .before .before .before .before .before .before .before .before .before .before .before .before .before .before .before .before .before .before .before .before .before .before .before .before .before .before .before .before .pre .1)), (ways.turn-of (c .before .before .before .before .before .before .before .before .before .before .before .before .before .before .before .before .before .before .before .before .before .before .before .before .before .before .before .before .before .before .before .before .before .before .before .function-slots .ensures) (c .before .before .before .before .before .before .before .before .before .before .before .before .before .before .before .before .before .before .before .before .before .before .before .before .before .before .before .before .before .loop-test .taken)))
 
-relocate-loop-less-2 : (t : ℕ) → relocate-lts.Need-loop-less-2 (
-  function-slots-reads.Asked,
-  function-slots-reads.Learnt,
-  function-section-reads.Asked,
-  function-section-reads.Learnt,
-  function-offset-reads.Asked,
-  function-offset-reads.Learnt,
-  part-of-reads.Asked,
-  part-of-reads.Learnt,
-  relocations-before-reads.Asked,
-  relocations-before-reads.Learnt,
-  offset-at-reads.Asked,
-  offset-at-reads.Learnt,
-  slot-at-reads.Asked,
-  slot-at-reads.Learnt,
-  place-reads.Asked,
-  place-reads.Learnt,
-  is-here-reads.Asked,
-  is-here-reads.Learnt,
-  is-before-reads.Asked,
-  is-before-reads.Learnt,
-  resolve-reads.Asked,
-  resolve-reads.Learnt,
-  placed-below t,
-  placed.Post,
-  point-reads.Asked,
-  point-reads.Learnt,
-)
+relocate-loop-less-2 : (t : ℕ) → relocate-lts.Need-loop-less-2 (relocate-claims t)
     (relocate-at t)
     relocate.Post
     relocate-Inv-loop2
@@ -1937,34 +639,7 @@ relocate-loop-less-2 : (t : ℕ) → relocate-lts.Need-loop-less-2 (
     relocate-μ-loop
 relocate-loop-less-2 t c = omega (arith, (ways.turn-of (c .before .before .before .before .before .before .before .before .before .before .before .before .before .before .before .before .before .before .before .before .before .before .before .before .before .before .before .before .before .before .before .before .before .before .before .function-slots .ensures) (c .before .before .before .before .before .before .before .before .before .before .before .before .before .before .before .before .before .before .before .before .before .before .before .before .before .before .before .before .before .loop-test .taken)), c .before .before .before .before .before .before .before .before .before .before .before .before .before .before .before .before .before .before .before .before .before .before .before .before .before .before .before .before .before .loop-test .taken)
 
-relocate-loop-again-2 : (t : ℕ) → relocate-lts.Need-loop-again-2 (
-  function-slots-reads.Asked,
-  function-slots-reads.Learnt,
-  function-section-reads.Asked,
-  function-section-reads.Learnt,
-  function-offset-reads.Asked,
-  function-offset-reads.Learnt,
-  part-of-reads.Asked,
-  part-of-reads.Learnt,
-  relocations-before-reads.Asked,
-  relocations-before-reads.Learnt,
-  offset-at-reads.Asked,
-  offset-at-reads.Learnt,
-  slot-at-reads.Asked,
-  slot-at-reads.Learnt,
-  place-reads.Asked,
-  place-reads.Learnt,
-  is-here-reads.Asked,
-  is-here-reads.Learnt,
-  is-before-reads.Asked,
-  is-before-reads.Learnt,
-  resolve-reads.Asked,
-  resolve-reads.Learnt,
-  placed-below t,
-  placed.Post,
-  point-reads.Asked,
-  point-reads.Learnt,
-)
+relocate-loop-again-2 : (t : ℕ) → relocate-lts.Need-loop-again-2 (relocate-claims t)
     (relocate-at t)
     relocate.Post
     relocate-Inv-loop2
@@ -1973,34 +648,7 @@ relocate-loop-again-2 : (t : ℕ) → relocate-lts.Need-loop-again-2 (
     relocate-μ-loop
 relocate-loop-again-2 t c = (ways.on-pointed (c .before .before .before .before .before .before .before .before .before .before .before .before .before .before .before .before .before .before .before .before .before .before .before .before .before .before .before .before .before .before .before .before .before .before .before .before .before .before .before .before .before .before .before .before .before .before .pre .1) (c .before .before .before .before .before .before .before .before .before .before .before .before .before .before .before .before .before .before .before .before .before .before .before .before .before .before .before .before .before .before .loop .inv .0) (ways.turn-of (c .before .before .before .before .before .before .before .before .before .before .before .before .before .before .before .before .before .before .before .before .before .before .before .before .before .before .before .before .before .before .before .before .before .before .before .function-slots .ensures) (c .before .before .before .before .before .before .before .before .before .before .before .before .before .before .before .before .before .before .before .before .before .before .before .before .before .before .before .before .before .loop-test .taken)) (c .before .before .before .before .before .before .before .before .before .before .before .before .before .before .before .before .before .before .before .before .before .meaning2 .given .0 .0) (c .before .before .before .before .before .before .before .before .before .before .before .before .before .before .before .before .before .before .before .before .before .meaning2 .given .0 .1 .0) (rw (c .before .before .before .before .before .before .before .before .before .before .before .before .before .before .before .before .before .before .before .before .before .meaning2 .given .1) at (c .before .before .before .before .before .before .before .before .before .before .before .before .before .before .before .before .before .before .before .before .before .before .before .resolve .ensures)) (c .before .before .before .before .before .before .before .before .before .before .before .before .before .before .before .before .placed .ensures) (ap (λ x. replyOf x .number) (c .before .before .before .before .before .before .before .before .enum-told2 .given .1)) _ (c .before .before .before .before .before .slot-at2 .ensures) (c .before .before .before .slot-at3 .ensures) (c .before .before .point .ensures), (c .before .before .before .before .before .before .before .before .before .before .before .before .before .before .before .before .before .before .before .before .before .before .before .before .before .loop2 .inv .0, ways.behind-next (c .before .before .before .before .before .before .before .before .before .before .before .before .before .before .before .before .before .before .before .before .before .before .before .before .before .before .before .before .before .before .before .before .before .before .before .before .before .before .before .before .before .before .before .before .before .before .pre .1) (c .before .before .before .before .before .before .before .before .before .before .before .before .before .before .before .before .before .before .before .before .before .before .before .before .before .before .before .before .before .before .loop .slot) (c .before .before .before .before .before .before .before .before .before .before .before .before .before .before .before .before .before .before .before .before .before .before .before .before .before .loop2 .cur) (c .before .before .before .before .before .before .before .before .before .before .before .before .before .before .before .before .before .before .before .before .before .before .before .before .before .loop2 .inv .1)))
 
-relocate-same-length-7 : (t : ℕ) → relocate-lts.Need-same-length-7 (
-  function-slots-reads.Asked,
-  function-slots-reads.Learnt,
-  function-section-reads.Asked,
-  function-section-reads.Learnt,
-  function-offset-reads.Asked,
-  function-offset-reads.Learnt,
-  part-of-reads.Asked,
-  part-of-reads.Learnt,
-  relocations-before-reads.Asked,
-  relocations-before-reads.Learnt,
-  offset-at-reads.Asked,
-  offset-at-reads.Learnt,
-  slot-at-reads.Asked,
-  slot-at-reads.Learnt,
-  place-reads.Asked,
-  place-reads.Learnt,
-  is-here-reads.Asked,
-  is-here-reads.Learnt,
-  is-before-reads.Asked,
-  is-before-reads.Learnt,
-  resolve-reads.Asked,
-  resolve-reads.Learnt,
-  placed-below t,
-  placed.Post,
-  point-reads.Asked,
-  point-reads.Learnt,
-)
+relocate-same-length-7 : (t : ℕ) → relocate-lts.Need-same-length-7 (relocate-claims t)
     (relocate-at t)
     relocate.Post
     relocate-Inv-loop2
@@ -2009,34 +657,7 @@ relocate-same-length-7 : (t : ℕ) → relocate-lts.Need-same-length-7 (
     relocate-μ-loop
 relocate-same-length-7 t c = ap (λ x. x .image) (c .before .loop .inv .0 .lengths)
 
-relocate-same-length-8 : (t : ℕ) → relocate-lts.Need-same-length-8 (
-  function-slots-reads.Asked,
-  function-slots-reads.Learnt,
-  function-section-reads.Asked,
-  function-section-reads.Learnt,
-  function-offset-reads.Asked,
-  function-offset-reads.Learnt,
-  part-of-reads.Asked,
-  part-of-reads.Learnt,
-  relocations-before-reads.Asked,
-  relocations-before-reads.Learnt,
-  offset-at-reads.Asked,
-  offset-at-reads.Learnt,
-  slot-at-reads.Asked,
-  slot-at-reads.Learnt,
-  place-reads.Asked,
-  place-reads.Learnt,
-  is-here-reads.Asked,
-  is-here-reads.Learnt,
-  is-before-reads.Asked,
-  is-before-reads.Learnt,
-  resolve-reads.Asked,
-  resolve-reads.Learnt,
-  placed-below t,
-  placed.Post,
-  point-reads.Asked,
-  point-reads.Learnt,
-)
+relocate-same-length-8 : (t : ℕ) → relocate-lts.Need-same-length-8 (relocate-claims t)
     (relocate-at t)
     relocate.Post
     relocate-Inv-loop2
@@ -2045,34 +666,7 @@ relocate-same-length-8 : (t : ℕ) → relocate-lts.Need-same-length-8 (
     relocate-μ-loop
 relocate-same-length-8 t c = ap (λ x. x .funcInfo) (c .before .loop .inv .0 .lengths)
 
-relocate-same-length-9 : (t : ℕ) → relocate-lts.Need-same-length-9 (
-  function-slots-reads.Asked,
-  function-slots-reads.Learnt,
-  function-section-reads.Asked,
-  function-section-reads.Learnt,
-  function-offset-reads.Asked,
-  function-offset-reads.Learnt,
-  part-of-reads.Asked,
-  part-of-reads.Learnt,
-  relocations-before-reads.Asked,
-  relocations-before-reads.Learnt,
-  offset-at-reads.Asked,
-  offset-at-reads.Learnt,
-  slot-at-reads.Asked,
-  slot-at-reads.Learnt,
-  place-reads.Asked,
-  place-reads.Learnt,
-  is-here-reads.Asked,
-  is-here-reads.Learnt,
-  is-before-reads.Asked,
-  is-before-reads.Learnt,
-  resolve-reads.Asked,
-  resolve-reads.Learnt,
-  placed-below t,
-  placed.Post,
-  point-reads.Asked,
-  point-reads.Learnt,
-)
+relocate-same-length-9 : (t : ℕ) → relocate-lts.Need-same-length-9 (relocate-claims t)
     (relocate-at t)
     relocate.Post
     relocate-Inv-loop2
@@ -2081,34 +675,7 @@ relocate-same-length-9 : (t : ℕ) → relocate-lts.Need-same-length-9 (
     relocate-μ-loop
 relocate-same-length-9 t c = ap (λ x. x .lineInfo) (c .before .loop .inv .0 .lengths)
 
-relocate-returns-3 : (t : ℕ) → relocate-lts.Need-returns-3 (
-  function-slots-reads.Asked,
-  function-slots-reads.Learnt,
-  function-section-reads.Asked,
-  function-section-reads.Learnt,
-  function-offset-reads.Asked,
-  function-offset-reads.Learnt,
-  part-of-reads.Asked,
-  part-of-reads.Learnt,
-  relocations-before-reads.Asked,
-  relocations-before-reads.Learnt,
-  offset-at-reads.Asked,
-  offset-at-reads.Learnt,
-  slot-at-reads.Asked,
-  slot-at-reads.Learnt,
-  place-reads.Asked,
-  place-reads.Learnt,
-  is-here-reads.Asked,
-  is-here-reads.Learnt,
-  is-before-reads.Asked,
-  is-before-reads.Learnt,
-  resolve-reads.Asked,
-  resolve-reads.Learnt,
-  placed-below t,
-  placed.Post,
-  point-reads.Asked,
-  point-reads.Learnt,
-)
+relocate-returns-3 : (t : ℕ) → relocate-lts.Need-returns-3 (relocate-claims t)
     (relocate-at t)
     relocate.Post
     relocate-Inv-loop2
@@ -2119,18 +686,7 @@ relocate-returns-3 t c = steps.visit-done (c .before .before .before .before .be
 
 pub +link-function+placed+relocate-spec : {M : Type 1} → statement M
 +link-function+placed+relocate-spec =
-    close μ-link-function μ-placed μ-relocate (λ t. link-function-lts.spec (
-      has-room-reads.Asked,
-      has-room-reads.Learnt,
-      part-of-reads.Asked,
-      part-of-reads.Learnt,
-      stray-line-reads.Asked,
-      stray-line-reads.Learnt,
-      extend-reads.Asked,
-      extend-reads.Learnt,
-      relocate-below t,
-      relocate.Post,
-    )
+    close μ-link-function μ-placed μ-relocate (λ t. link-function-lts.spec (link-function-claims t)
     (link-function-at t)
     link-function.Post
     (link-function-has-room-requires t)
@@ -2164,34 +720,7 @@ pub +link-function+placed+relocate-spec : {M : Type 1} → statement M
     (placed-same-length-3 t)
     (placed-returns t)
     (placed-returns-2 t))
-    λ t. relocate-lts.spec (
-      function-slots-reads.Asked,
-      function-slots-reads.Learnt,
-      function-section-reads.Asked,
-      function-section-reads.Learnt,
-      function-offset-reads.Asked,
-      function-offset-reads.Learnt,
-      part-of-reads.Asked,
-      part-of-reads.Learnt,
-      relocations-before-reads.Asked,
-      relocations-before-reads.Learnt,
-      offset-at-reads.Asked,
-      offset-at-reads.Learnt,
-      slot-at-reads.Asked,
-      slot-at-reads.Learnt,
-      place-reads.Asked,
-      place-reads.Learnt,
-      is-here-reads.Asked,
-      is-here-reads.Learnt,
-      is-before-reads.Asked,
-      is-before-reads.Learnt,
-      resolve-reads.Asked,
-      resolve-reads.Learnt,
-      placed-below t,
-      placed.Post,
-      point-reads.Asked,
-      point-reads.Learnt,
-    )
+    λ t. relocate-lts.spec (relocate-claims t)
     (relocate-at t)
     relocate.Post
     relocate-Inv-loop2
