@@ -5,3 +5,4 @@ pub mod Cursor
 pub mod Steps
 pub mod Whole
 pub mod Ways
+pub mod Kept

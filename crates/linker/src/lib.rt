@@ -402,9 +402,9 @@ pub fn link(
         root,
     );
     let Answer::Done(_, _, _) = answer else {
-        wipe(image);
-        wipe(image_func_info);
-        wipe(image_line_info);
+        wipe(image); // what the step wrote
+        wipe(image_func_info); // and its function records
+        wipe(image_line_info); // and its line records
         return answer;
     };
     answer

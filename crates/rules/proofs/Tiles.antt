@@ -5,6 +5,7 @@ use mathlib.Core.List.{List, [], _∷_, _++_, List·Memᴰ, List·Memᴰ·head, 
 use mathlib.Core.Logic.{_⊎_, inl, inr}
 use Prim.Native.Nat.{ℕ, _+_, _≤_, _<_}
 use native.Mathlib.Omega.{arith}
+use native.Mathlib.Decide.{decLt}
 use Rattle.rules.specs.Object.{Object}
 use Rattle.rules.specs.Faithful.{Piece, Tile}
 
@@ -24,6 +25,24 @@ tile-fits object {p} from to (List·Memᴰ·tail {x} {xs} m) t =
 pub tile-append : (object : Object) (ps qs : List Piece) (from mid to : ℕ) → Tile object from ps mid → Tile object mid qs to → Tile object from (ps ++ qs) to
 tile-append object [] qs from mid to t u = rw t u
 tile-append object (p ∷ ps) qs from mid to t u = (t .0, tile-append object ps qs (from + object .slots (p .row)) mid to (t .1) u)
+
+-- a slot of what is tiled lies in a piece
+pub record Covered (object : Object) (ps : List Piece) (k : ℕ) : Type 0 where
+  pub by : Piece
+  pub among : List·Memᴰ by ps
+  pub low : by .start ≤ k
+  pub high : k < by .start + object .slots (by .row)
+
+pub tile-covers : (object : Object) (ps : List Piece) (from to k : ℕ) → Tile object from ps to → from ≤ k → k < to → Covered object ps k
+tile-covers object [] from to k t a b = absurd (omega arith)
+tile-covers object (p ∷ ps) from to k t a b =
+    go (decLt k (from + object .slots (p .row))) (λ l. tile-covers object ps (from + object .slots (p .row)) to k (t .1) l b)
+  where
+    go : Dec (k < from + object .slots (p .row)) → (from + object .slots (p .row) ≤ k → Covered object ps k) → Covered object (p ∷ ps) k
+    go (yes l) later = record { by = p; among = List·Memᴰ·head refl; low = omega (arith, t .0); high = omega (arith, t .0) }
+    go (no n) later =
+        let c = later (omega arith) in
+        record { by = c .by; among = List·Memᴰ·tail (c .among); low = c .low; high = c .high }
 
 -- a slot lies in one piece only
 pub tile-one : (object : Object) (p q : Piece) (ps : List Piece) (from to k : ℕ) → List·Memᴰ p ps → List·Memᴰ q ps → Tile object from ps to

@@ -12,3 +12,4 @@ pub mod Rows
 pub mod Lookups
 pub mod Readers
 pub mod Entries
+pub mod Demand3
