@@ -25,4 +25,5 @@ pub mod MapsInPlace
 pub mod MapsApart
 pub mod MapsCode
 pub mod MapsBytes
+pub mod Replies
 pub mod Worked

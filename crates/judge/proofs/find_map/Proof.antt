@@ -1,0 +1,45 @@
+-- The map with the symbol decides; where there is none, that of the section does.
+-- Assumes nothing.
+use mathlib.Core.Path.{sym, ap, _∙_}
+use borrow.Author.Needs.{needs}
+use Rattle.rules.specs.Maps.{orElse}
+use Rattle.rules.specs.Lookups.{foundOf, mapWithSymbol, mapOfSection}
+use Rattle.rows.proofs.Laws.{found-some, found-none}
+use Rattle.judge.proofs.find_map.Statement.{statement}
+use Rattle.judge.proofs.find_map.Tie as tie
+
+find-map-symbol-requires : tie.Need-find-map-symbol-requires
+find-map-symbol-requires c κs = search needs
+
+enum-known-found : tie.Need-enum-known-found
+enum-known-found c = search needs
+
+enum-told : tie.Need-enum-told
+enum-told c = search needs
+
+find-map-section-requires : tie.Need-find-map-section-requires
+find-map-section-requires c κs = search needs
+
+returns : tie.Need-returns
+returns c =
+    let a = c .before .before .before .before .before .args in
+    let e = sym (c .before .before .before .find-map-symbol .ensures) ∙ c .before .found .given .1 in
+    sym (ap (λ o. foundOf (orElse o (mapOfSection (a .maps .now) (a .home)))) (found-some (mapWithSymbol (a .maps .now) (a .symbol)) _ e))
+
+returns-2 : tie.Need-returns-2
+returns-2 c =
+    let a = c .before .before .before .before .before .args in
+    let e = sym (c .before .before .before .find-map-symbol .ensures) ∙ c .before .enum-told .given .1 in
+    c .find-map-section .ensures
+    ∙ sym (ap (λ o. foundOf (orElse o (mapOfSection (a .maps .now) (a .home)))) (found-none (mapWithSymbol (a .maps .now) (a .symbol)) e))
+
+pub find-map-spec : {M : Type 1} → statement M
+find-map-spec =
+    tie.close
+    (tie.spec
+    find-map-symbol-requires
+    enum-known-found
+    enum-told
+    find-map-section-requires
+    returns
+    returns-2)

@@ -1,0 +1,59 @@
+-- Each field is read from the slot that the function's first slot and the slot number add up to.
+-- Assumes nothing.
+use mathlib.Core.Path.{refl, ap, _∙_}
+use Prim.Native.Nat.{ℕ, _+_}
+use borrow.Author.Needs.{needs}
+use mir.Syntax.{w32}
+use mir.ValLaws.{toZ-ofZ}
+use Rattle.rules.specs.Bytes.{little, slotIn}
+use Rattle.rules.specs.Object.{isCall}
+use Rattle.insn.specs.Wide.{wideLoadIn}
+use Rattle.judge.proofs.read_site.Statement.{statement}
+use Rattle.judge.proofs.read_site.Tie as tie
+
+add-slot-at : tie.Need-add-slot-at
+add-slot-at c = search needs
+
+slot-at-requires : tie.Need-slot-at-requires
+slot-at-requires c κs = search needs
+
+add-slot-at-2 : tie.Need-add-slot-at-2
+add-slot-at-2 c = search needs
+
+slot-at-requires-2 : tie.Need-slot-at-requires-2
+slot-at-requires-2 c κs = search needs
+
+immediate-requires : tie.Need-immediate-requires
+immediate-requires c κs = search needs
+
+insn-is-call-requires : tie.Need-insn-is-call-requires
+insn-is-call-requires c κs = search needs
+
+is-wide-load-requires : tie.Need-is-wide-load-requires
+is-wide-load-requires c κs = search needs
+
+returns : tie.Need-returns
+returns c =
+    let a = c .before .before .before .before .before .before .before .args in
+    let at = c .before .before .before .before .slot-at .ensures in
+    record {
+      row-is = refl;
+      slot-is = refl;
+      here-is = at;
+      imm-is = toZ-ofZ w32 _ (record { sfits = c .before .before .immediate .ok }) ∙ c .before .before .immediate .ensures ∙ ap (λ (n : ℕ). slotIn little (a .instructions .now) n .immediate) at;
+      call-is = c .before .insn-is-call .ensures ∙ ap (λ (n : ℕ). isCall (slotIn little (a .instructions .now) n)) at;
+      wide-is = c .is-wide-load .ensures ∙ ap (λ (n : ℕ). wideLoadIn (a .instructions .now) n (c .before .before .before .slot-at2 .result .0)) at ∙ ap (λ (n : ℕ). wideLoadIn (a .instructions .now) (a .first + a .slot .0) n) (c .before .before .before .slot-at2 .ensures);
+    }
+
+pub read-site-spec : {M : Type 1} → statement M
+read-site-spec =
+    tie.close
+    (tie.spec
+    add-slot-at
+    slot-at-requires
+    add-slot-at-2
+    slot-at-requires-2
+    immediate-requires
+    insn-is-call-requires
+    is-wide-load-requires
+    returns)

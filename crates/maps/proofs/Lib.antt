@@ -1,0 +1,4 @@
+pub mod Tasks
+pub mod Passes
+pub mod Rewriting
+pub mod Step

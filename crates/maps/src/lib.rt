@@ -1,0 +1,316 @@
+// The map step: every relocation of every function judged, then all that apply rewritten in place.
+use insn::next;
+use insn::set_immediate;
+use insn::set_source;
+use insn::slot_at;
+use insn::to_offset;
+use judge::Verdict;
+use judge::judge;
+use rows::fields::FUNCTION_SIZE;
+use rows::fields::RELOCATION_SIZE;
+use rows::fields::function_offset;
+use rows::fields::function_section;
+use rows::fields::function_slots;
+use rows::fields::relocation_offset;
+use rows::fields::relocation_section;
+use rows::find::relocations_before;
+use rules::Answer;
+use rules::Slot;
+use tables::checks::check_map_step;
+ghost use mathlib.Core.Path.{_≡_};
+ghost use Prim.Native.Nat.{suc, _+_, _*_, _≤_, _<_, _^_};
+ghost use lib.ListN.{length};
+ghost use Rattle.rules.specs.declared.Table.the-variants.{Functions, Relocations};
+ghost use Rattle.rules.specs.Rows.{rowSize, wholeRows, functionSection, functionOffset};
+ghost use Rattle.rules.specs.Lookups.{Sound, MapChecked, relocationsBefore};
+ghost use Rattle.judge.specs.Judged.{lent, offer, Asked, Inside};
+ghost use Rattle.maps.specs.Passes.{refusalOf, verdictRefusal, isWithin, endOf, Changed, ValueChanged, RowAsked, RowJudged, AllJudged, OneRewritten, RowRewritten, AllRewritten, Stepped, Relocated};
+
+pub enum Judgement {
+    Passes,
+    Refused(Answer),
+}
+
+fn refusal_of(v: Verdict) -> Judgement
+    ensures { λ r. ⌜ refusalOf r ≡ verdictRefusal v ⌝ }
+{
+    match v {
+        Verdict::Skipped => Judgement::Passes,
+        Verdict::Refused(a) => Judgement::Refused(a),
+        Verdict::Plain(_, _) => Judgement::Passes,
+        Verdict::Valued(_, _, _) => Judgement::Passes,
+    }
+}
+
+// Whether row k of table 4 is of the section `home`, before the offset `end`.
+fn is_within(relocations: &[u8], k: usize, home: u32, end: u64) -> bool
+    requires { ⌜ rowSize Relocations * k + rowSize Relocations ≤ length (now relocations) ⌝ }
+    ensures { λ r. ⌜ r ≡ isWithin (now (relocations .entry)) home end k ⌝ }
+{
+    let section = relocation_section(relocations, k);
+    let offset = relocation_offset(relocations, k);
+    (section == home) & (offset < end)
+}
+
+fn end_of(functions: &[u8], row: usize) -> u64
+    requires { ⌜ Sound Functions (now functions) × (row < wholeRows Functions (now functions)) ⌝ }
+    ensures { λ r. ⌜ r ≡ endOf (now (functions .entry)) row ⌝ }
+{
+    let size = to_offset(slot_at(function_slots(functions, row)));
+    function_offset(functions, row) + size.0
+}
+
+fn first_of(functions: &[u8], relocations: &[u8], row: usize) -> usize
+    requires { ⌜ Sound Relocations (now relocations) × (row < wholeRows Functions (now functions)) ⌝ }
+    ensures { λ r. ⌜ (r ≡ relocationsBefore (now (relocations .entry)) (functionSection (now (functions .entry)) row) (functionOffset (now (functions .entry)) row)) × (r ≤ wholeRows Relocations (now (relocations .entry))) ⌝ }
+{
+    relocations_before(
+        relocations,
+        function_section(functions, row),
+        function_offset(functions, row),
+    )
+}
+
+fn judge_function(
+    code: &[u8],
+    symbols: &[u8],
+    functions: &[u8],
+    relocations: &[u8],
+    maps: &[u8],
+    instructions: &[u8],
+    row: usize,
+    first: u32,
+) -> Judgement
+    requires { ⌜ RowAsked (lent (now code) (now symbols) (now functions) (now relocations) (now maps)) (now instructions) row first ⌝ }
+    ensures { λ r. ⌜ RowJudged (lent (now (code .entry)) (now (symbols .entry)) (now (functions .entry)) (now (relocations .entry)) (now (maps .entry))) (now (instructions .entry)) row r ⌝ }
+{
+    let home = function_section(functions, row);
+    let end = end_of(functions, row);
+    let n = relocations.len() / RELOCATION_SIZE;
+    let mut k = first_of(functions, relocations, row);
+    while k < n {
+        if !is_within(relocations, k, home, end) {
+            return Judgement::Passes;
+        }
+        let j = refusal_of(judge(
+            code,
+            symbols,
+            functions,
+            relocations,
+            maps,
+            instructions,
+            row,
+            first,
+            k,
+        ));
+        match j {
+            Judgement::Refused(a) => return Judgement::Refused(a),
+            Judgement::Passes => k += 1,
+        }
+    }
+    Judgement::Passes
+}
+
+fn judge_all(
+    code: &[u8],
+    symbols: &[u8],
+    functions: &[u8],
+    relocations: &[u8],
+    maps: &[u8],
+    instructions: &[u8],
+) -> Judgement
+    requires { ⌜ MapChecked (offer (lent (now code) (now symbols) (now functions) (now relocations) (now maps)) (now instructions)) ⌝ }
+    ensures { λ r. ⌜ AllJudged (lent (now (code .entry)) (now (symbols .entry)) (now (functions .entry)) (now (relocations .entry)) (now (maps .entry))) (now (instructions .entry)) r ⌝ }
+{
+    let n = functions.len() / FUNCTION_SIZE;
+    let mut row = 0;
+    let mut first: u32 = 0;
+    while row < n {
+        let j = judge_function(
+            code,
+            symbols,
+            functions,
+            relocations,
+            maps,
+            instructions,
+            row,
+            first,
+        );
+        match j {
+            Judgement::Refused(a) => {
+                return Judgement::Refused(a);
+            }
+            Judgement::Passes => {
+                first += function_slots(functions, row);
+                row += 1;
+            }
+        }
+    }
+    Judgement::Passes
+}
+
+fn apply_plain(instructions: &mut [u8], here: Slot, fd: i32)
+    requires { ⌜ Inside (now instructions) (here .0) ⌝ }
+    ensures { λ _. ⌜ Changed (now (instructions .entry)) (here .0) fd (now (instructions .exit)) ⌝ }
+{
+    set_source(instructions, here, 1);
+    set_immediate(instructions, here, fd);
+}
+
+fn apply_valued(instructions: &mut [u8], here: Slot, fd: i32, value: i32)
+    requires { ⌜ Inside (now instructions) (suc (here .0)) × (here .0 + 1 < 2 ^ 32) ⌝ }
+    ensures { λ _. ⌜ ValueChanged (now (instructions .entry)) (here .0) fd value (now (instructions .exit)) ⌝ }
+{
+    set_source(instructions, here, 2);
+    set_immediate(instructions, next(here), value);
+    set_immediate(instructions, here, fd);
+}
+
+// How many were rewritten: 0 or 1.
+fn rewrite_one(
+    code: &[u8],
+    symbols: &[u8],
+    functions: &[u8],
+    relocations: &[u8],
+    maps: &[u8],
+    instructions: &mut [u8],
+    row: usize,
+    first: u32,
+    k: usize,
+) -> u32
+    requires { ⌜ Asked (lent (now code) (now symbols) (now functions) (now relocations) (now maps)) (now instructions) row first k ⌝ }
+    ensures { λ r. ⌜ OneRewritten (lent (now (code .entry)) (now (symbols .entry)) (now (functions .entry)) (now (relocations .entry)) (now (maps .entry))) (now (instructions .entry)) row k r (now (instructions .exit)) ⌝ }
+{
+    let v = judge(
+        code,
+        symbols,
+        functions,
+        relocations,
+        maps,
+        instructions,
+        row,
+        first,
+        k,
+    );
+    match v {
+        Verdict::Skipped => 0,
+        Verdict::Refused(_) => 0,
+        Verdict::Plain(here, fd) => {
+            apply_plain(instructions, here, fd);
+            1
+        }
+        Verdict::Valued(here, fd, value) => {
+            apply_valued(instructions, here, fd, value);
+            1
+        }
+    }
+}
+
+fn rewrite_function(
+    code: &[u8],
+    symbols: &[u8],
+    functions: &[u8],
+    relocations: &[u8],
+    maps: &[u8],
+    instructions: &mut [u8],
+    row: usize,
+    first: u32,
+) -> u32
+    requires { ⌜ RowAsked (lent (now code) (now symbols) (now functions) (now relocations) (now maps)) (now instructions) row first ⌝ }
+    ensures { λ r. ⌜ RowRewritten (lent (now (code .entry)) (now (symbols .entry)) (now (functions .entry)) (now (relocations .entry)) (now (maps .entry))) (now (instructions .entry)) row r (now (instructions .exit)) ⌝ }
+{
+    let home = function_section(functions, row);
+    let end = end_of(functions, row);
+    let n = relocations.len() / RELOCATION_SIZE;
+    let mut k = first_of(functions, relocations, row);
+    let mut count: u32 = 0;
+    while k < n {
+        if !is_within(relocations, k, home, end) {
+            return count;
+        }
+        count += rewrite_one(
+            code,
+            symbols,
+            functions,
+            relocations,
+            maps,
+            instructions,
+            row,
+            first,
+            k,
+        );
+        k += 1;
+    }
+    count
+}
+
+fn rewrite_all(
+    code: &[u8],
+    symbols: &[u8],
+    functions: &[u8],
+    relocations: &[u8],
+    maps: &[u8],
+    instructions: &mut [u8],
+) -> u32
+    requires { ⌜ MapChecked (offer (lent (now code) (now symbols) (now functions) (now relocations) (now maps)) (now instructions)) ⌝ }
+    ensures { λ r. ⌜ AllRewritten (lent (now (code .entry)) (now (symbols .entry)) (now (functions .entry)) (now (relocations .entry)) (now (maps .entry))) (now (instructions .entry)) r (now (instructions .exit)) ⌝ }
+{
+    let rows = functions.len() / FUNCTION_SIZE;
+    let mut row = 0;
+    let mut first: u32 = 0;
+    let mut count: u32 = 0;
+    while row < rows {
+        count += rewrite_function(
+            code,
+            symbols,
+            functions,
+            relocations,
+            maps,
+            instructions,
+            row,
+            first,
+        );
+        first += function_slots(functions, row);
+        row += 1;
+    }
+    count
+}
+
+fn relocate_checked(
+    code: &[u8],
+    symbols: &[u8],
+    functions: &[u8],
+    relocations: &[u8],
+    maps: &[u8],
+    instructions: &mut [u8],
+) -> Answer
+    requires { ⌜ MapChecked (offer (lent (now code) (now symbols) (now functions) (now relocations) (now maps)) (now instructions)) ⌝ }
+    ensures { λ r. ⌜ Stepped (lent (now (code .entry)) (now (symbols .entry)) (now (functions .entry)) (now (relocations .entry)) (now (maps .entry))) (now (instructions .entry)) r (now (instructions .exit)) ⌝ }
+{
+    let j = judge_all(code, symbols, functions, relocations, maps, instructions);
+    match j {
+        Judgement::Refused(a) => a,
+        Judgement::Passes => {
+            let count = rewrite_all(code, symbols, functions, relocations, maps, instructions);
+            Answer::Done(count, 0, 0)
+        }
+    }
+}
+
+// Tables 1 to 6; table 6 is rewritten in place, only once nothing is refused.
+pub fn relocate_maps(
+    code: &[u8],
+    symbols: &[u8],
+    functions: &[u8],
+    relocations: &[u8],
+    maps: &[u8],
+    instructions: &mut [u8],
+) -> Answer
+    ensures { λ r. ⌜ Relocated (lent (now (code .entry)) (now (symbols .entry)) (now (functions .entry)) (now (relocations .entry)) (now (maps .entry))) (now (instructions .entry)) r (now (instructions .exit)) ⌝ }
+{
+    let a = check_map_step(code, symbols, functions, relocations, maps, instructions);
+    let Answer::Done(_, _, _) = a else {
+        return a;
+    };
+    relocate_checked(code, symbols, functions, relocations, maps, instructions)
+}
