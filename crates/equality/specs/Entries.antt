@@ -1,0 +1,75 @@
+-- Demand 2 of what the entries write: the bytes that the map step leaves go to the link, and what the link writes is the crate's, as bytes.
+-- Assumes nothing.
+use mathlib.Core.Path.{_≡_}
+use mathlib.Core.Logic.{_⊎_}
+use mathlib.Core.Bool.{cond}
+use mathlib.Core.Option.{none}
+use mathlib.Core.List.{List}
+use Prim.Native.Nat.{ℕ, _<_}
+use lib.Dec.{eqb}
+use Rattle.rules.specs.Object.{Insn}
+use Rattle.rules.specs.Link.{Refusal}
+use Rattle.rules.specs.Bytes.{Order, byteAt}
+use Rattle.rules.specs.Answers.{Reply}
+use Rattle.rules.specs.Maps.{mapped, mapStep}
+use Rattle.rules.specs.Rows.{Offered, tablesOf, mapStepRefusal, linkRefusal}
+use Rattle.rules.specs.Entries.{MapResult, Outputs, roomIn, LinkResult, refusalReply, refusedLink, acceptedLink, mapEntry, linkEntry}
+use Rattle.equality.specs.Crate.{Result, ok, err, Linker}
+use Rattle.equality.specs.Domain.{Hidden, Compared, causeOf, MapClauses, CallDomain, withInstructions}
+use Rattle.equality.specs.Demand2.{refusal, ourSteps}
+
+-- table 6 as the map step leaves it
+abbrev pub withBytes : Offered → List ℕ → Offered
+withBytes o bytes = record {
+  code = o .code;
+  symbols = o .symbols;
+  functions = o .functions;
+  relocations = o .relocations;
+  maps = o .maps;
+  instructions = bytes;
+  funcInfo = o .funcInfo;
+  lineInfo = o .lineInfo;
+}
+
+-- the map step's reply if it refuses, else what the link gives
+pub data Entered : Type 0 where
+  stopped : Reply → Entered
+  went : LinkResult → Entered
+
+abbrev pub byReply : Order → Offered → ℕ → Outputs → MapResult → Entered
+byReply order o root lent r =
+    cond (eqb (r .reply .number) 0) (went (linkEntry order (withBytes o (r .instructions)) root lent)) (stopped (r .reply))
+
+unfoldable pub ourEntries : Order → Offered → ℕ → Outputs → Entered
+ourEntries order o root lent = byReply order o root lent (mapEntry order o)
+
+-- the domain, of what is offered to the two entries and lent to the link
+pub record EntryDomain (order : Order) (o : Offered) (hidden : Hidden) (lent : Outputs) (root : ℕ) : Type 0 where
+  -- "Valid tables in our limits": neither 1 nor 2 nor 13. Bytes are bytes
+  pub map-passes : mapStepRefusal o ≡ none
+  pub link-passes : linkRefusal o root ≡ none
+  pub bytes : (k : ℕ) → byteAt (o .instructions) k < 256
+  pub map-bytes : (k : ℕ) → byteAt (o .maps) k < 256
+  -- the clauses that speak of maps
+  pub maps : MapClauses (tablesOf order o) hidden
+  -- "no refusal but 3, 4, 5, 10"
+  pub compared : (why : Refusal) → ourSteps (tablesOf order o) (roomIn lent) root ≡ refusal why → Compared (why .number)
+  -- "Maps first, then calls": the clauses that speak of calls, of the tables that the map step leaves
+  pub calls : (instructions : List Insn) (count : ℕ) → mapStep (tablesOf order o) ≡ mapped instructions count
+      → CallDomain (withInstructions (tablesOf order o) instructions) hidden (roomIn lent) root
+
+-- accepted: the three outputs are the crate's instructions, function records and line records
+pub record SameBytes (order : Order) (lent : Outputs) (e : Entered) (o : Result Linker) : Type 0 where
+  pub linker : Linker
+  pub is-ok : o ≡ ok linker
+  pub written : e ≡ went (acceptedLink order lent (linker .instructions) (linker .func-info) (linker .line-info))
+
+-- refused, by the one step or the other: the crate's error is of the same cause
+pub record SameCause (order : Order) (lent : Outputs) (e : Entered) (o : Result Linker) : Type 0 where
+  pub why : Refusal
+  pub compared : Compared (why .number)
+  pub refused : (e ≡ stopped (refusalReply why)) ⊎ (e ≡ went (refusedLink lent (refusalReply why)))
+  pub is-err : o ≡ err (causeOf (why .number))
+
+abbrev pub EqualBytes : Order → Outputs → Entered → Result Linker → Type 0
+EqualBytes order lent e o = SameBytes order lent e o ⊎ SameCause order lent e o
