@@ -1,11 +1,16 @@
-# make test   the gate: proves every crate from nothing, tries the must-fail edits, runs the programs
-# make demo   builds what there is and says what it does
+# make test   the gate: runs the C programs against the archive, then proves every crate from nothing, tries the
+#             must-fail edits and runs the programs; its last line is rt ci's own
+# make demo   builds the archive and runs the example daemon
+# make lib    target/staticlib/libbarkruffle.a, for C
+# make bench  link and map step times: figures, not a test
 .PHONY: test demo
+.DEFAULT_GOAL := test
 
-test:
+include mk/c.mk
+
+test: test-c
 	@rt ci
 
-demo:
-	@rt check
-	@echo "Proved so far: the meaning of document 01 (rules), numbers in bytes (wire), instruction fields (insn)."
-	@echo "The map step, the link and the record readers are not coded yet: docs/CLAIMS.md marks what is."
+demo: $(C_OUT)/examples/daemon
+	@echo "The example daemon (examples/daemon.c): a map step, a link, two readers, through the C entries."
+	@$(C_OUT)/examples/daemon

@@ -1,0 +1,25 @@
+-- The reader promises the rows and the answer, `tell` the telling.
+-- Assumes nothing.
+use Rattle.barkruffle.proofs.Telling.{read-told}
+use borrow.Author.Needs.{needs}
+use Rattle.barkruffle.proofs.barkruffle_line_info.Statement.{statement}
+use Rattle.barkruffle.proofs.barkruffle_line_info.Tie as tie
+
+line-info-requires : tie.Need-line-info-requires
+line-info-requires c κs = search needs
+
+tell-requires : tie.Need-tell-requires
+tell-requires c κs = search needs
+
+same-length : tie.Need-same-length
+same-length c = search needs
+
+same-length-2 : tie.Need-same-length-2
+same-length-2 c = search needs
+
+returns : tie.Need-returns
+returns c = read-told (c .before .before .before .before .before .before .line-info .ensures) (c .before .before .tell .ensures)
+
+pub barkruffle-line-info-spec : {M : Type 1} → statement M
+barkruffle-line-info-spec =
+    tie.close (tie.spec line-info-requires tell-requires same-length same-length-2 returns)

@@ -1,0 +1,220 @@
+// The entries that C calls: each hands over to the crate that decides, and tells its answer as document 01's numbers.
+use info::func_info;
+use info::func_info_record_number;
+use info::line_info;
+use info::line_info_record_number;
+use linker::link;
+use maps::relocate_maps;
+use rules::Answer;
+use wire::put_places;
+ghost use mathlib.Core.Path.{_≡_};
+ghost use mathlib.Core.List.{[], _∷_};
+ghost use lib.Dec.{eqb};
+ghost use lib.ListN.{length};
+ghost use Rattle.rules.specs.declared.Table.the-variants.{FuncInfo, LineInfo};
+ghost use Rattle.rules.specs.Bytes.{little};
+ghost use Rattle.rules.specs.Answers.{replyOf};
+ghost use Rattle.rules.specs.Rows.{linkOffer, mapStepOffer};
+ghost use Rattle.rules.specs.Entries.{linkEntry, mapEntry};
+ghost use Rattle.rules.specs.Readers.{readRecords, recordReply};
+ghost use Rattle.info.specs.Promises.{given};
+ghost use Rattle.linker.specs.Linker.{buffers, lentBy};
+ghost use Rattle.barkruffle.specs.Promises.{Told, LinkTold, MapTold, ReadTold, Placed, Stands};
+
+fn number_of(a: Answer) -> u32
+    ensures { λ r. ⌜ r ≡ replyOf a .number ⌝ }
+{
+    match a {
+        Answer::Done(_, _, _) => 0,
+        Answer::TooManyRows(_) => 1,
+        Answer::BrokenRow(_, _) => 2,
+        Answer::UnknownSymbol(_, _) => 3,
+        Answer::InvalidRelocationOffset(_, _) => 4,
+        Answer::SectionNotFound(_, _) => 5,
+        Answer::NotWideLoad(_, _) => 6,
+        Answer::ValueOutside(_, _) => 7,
+        Answer::UnknownForm(_, _) => 8,
+        Answer::NoCode(_, _) => 9,
+        Answer::UnknownFunction(_, _) => 10,
+        Answer::NoRoom(_) => 11,
+        Answer::LineOutside(_, _) => 12,
+        Answer::NoRoot => 13,
+        Answer::BrokenInfo => 14,
+    }
+}
+
+struct Three(u32, u32, u32);
+
+fn places_of(a: Answer) -> Three
+    ensures { λ r. ⌜ (r .0 ∷ r .1 ∷ r .2 ∷ []) ≡ replyOf a .places ⌝ }
+{
+    match a {
+        Answer::Done(x, y, z) => Three(x, y, z),
+        Answer::TooManyRows(table) => Three(table, 0, 0),
+        Answer::BrokenRow(table, row) => Three(table, row, 0),
+        Answer::UnknownSymbol(function, slot) => Three(function, slot, 0),
+        Answer::InvalidRelocationOffset(function, slot) => Three(function, slot, 0),
+        Answer::SectionNotFound(function, slot) => Three(function, slot, 0),
+        Answer::NotWideLoad(function, slot) => Three(function, slot, 0),
+        Answer::ValueOutside(function, slot) => Three(function, slot, 0),
+        Answer::UnknownForm(function, slot) => Three(function, slot, 0),
+        Answer::NoCode(function, slot) => Three(function, slot, 0),
+        Answer::UnknownFunction(caller, slot) => Three(caller, slot, 0),
+        Answer::NoRoom(function) => Three(function, 0, 0),
+        Answer::LineOutside(function, line) => Three(function, line, 0),
+        Answer::NoRoot => Three(0, 0, 0),
+        Answer::BrokenInfo => Three(0, 0, 0),
+    }
+}
+
+fn tell(a: Answer, places: &mut [u8]) -> u32
+    ensures { λ r. ⌜ Told (now (places .entry)) (now (places .exit)) r (replyOf a) ⌝ }
+{
+    let three = places_of(a);
+    put_places(places, three.0, three.1, three.2);
+    number_of(a)
+}
+
+// Rewrites table 6 in place, only once nothing is refused.
+#[no_mangle]
+pub extern "C" fn barkruffle_relocate_maps(
+    code: &[u8],
+    symbols: &[u8],
+    functions: &[u8],
+    relocations: &[u8],
+    maps: &[u8],
+    instructions: &mut [u8],
+    places: &mut [u8],
+) -> u32
+    ensures { λ r. ⌜ MapTold (now (places .entry)) (now (places .exit)) (now (instructions .exit)) r (mapEntry little (mapStepOffer (now (code .entry)) (now (symbols .entry)) (now (functions .entry)) (now (relocations .entry)) (now (maps .entry)) (now (instructions .entry)))) ⌝ }
+{
+    let a = relocate_maps(code, symbols, functions, relocations, maps, instructions);
+    tell(a, places)
+}
+
+// Links the function at the row root of table 3.
+#[no_mangle]
+pub extern "C" fn barkruffle_link(
+    code: &[u8],
+    symbols: &[u8],
+    functions: &[u8],
+    relocations: &[u8],
+    instructions: &[u8],
+    func_info: &[u8],
+    line_info: &[u8],
+    root: u32,
+    image: &mut [u8],
+    image_func_info: &mut [u8],
+    image_line_info: &mut [u8],
+    places: &mut [u8],
+) -> u32
+    ensures { λ r. ⌜ LinkTold (now (places .entry)) (now (places .exit)) (buffers (now (image .exit)) (now («image_func_info» .exit)) (now («image_line_info» .exit))) r (linkEntry little (linkOffer (now (code .entry)) (now (symbols .entry)) (now (functions .entry)) (now (relocations .entry)) (now (instructions .entry)) (now («func_info» .entry)) (now («line_info» .entry))) root (lentBy (buffers (now (image .entry)) (now («image_func_info» .entry)) (now («image_line_info» .entry))))) ⌝ }
+{
+    let a = link(
+        code,
+        symbols,
+        functions,
+        relocations,
+        instructions,
+        func_info,
+        line_info,
+        image,
+        image_func_info,
+        image_line_info,
+        root,
+    );
+    tell(a, places)
+}
+
+// Reads struct bpf_func_info records into rows of table 7.
+#[no_mangle]
+pub extern "C" fn barkruffle_func_info(
+    size: u32,
+    count: u32,
+    bytes: &[u8],
+    out: &mut [u8],
+    places: &mut [u8],
+) -> u32
+    ensures { λ r. ⌜ ReadTold (now (places .entry)) (now (places .exit)) (now (out .exit)) r (readRecords little FuncInfo (given size count (now (bytes .entry))) (length (now (out .entry)))) ⌝ }
+{
+    let a = func_info(size, count, bytes, out);
+    tell(a, places)
+}
+
+// Reads struct bpf_line_info records into rows of table 8.
+#[no_mangle]
+pub extern "C" fn barkruffle_line_info(
+    size: u32,
+    count: u32,
+    bytes: &[u8],
+    out: &mut [u8],
+    places: &mut [u8],
+) -> u32
+    ensures { λ r. ⌜ ReadTold (now (places .entry)) (now (places .exit)) (now (out .exit)) r (readRecords little LineInfo (given size count (now (bytes .entry))) (length (now (out .entry)))) ⌝ }
+{
+    let a = line_info(size, count, bytes, out);
+    tell(a, places)
+}
+
+// Where a record stands in the caller's data: a slice is no result for C.
+#[repr(C)]
+pub struct Part {
+    pub at: u64,
+    pub len: u64,
+}
+
+fn part_of(a: Answer, size: u32, k: u32) -> Part
+    ensures { λ r. ⌜ Placed (eqb (replyOf a .number) 0) size k (r .at) (r .len) ⌝ }
+{
+    if number_of(a) != 0 {
+        return Part { at: 0, len: 0 };
+    }
+    Part {
+        at: (size as u64) * (k as u64),
+        len: size as u64,
+    }
+}
+
+// Record k of struct bpf_func_info, its tail included; (0, 0) where it is refused.
+#[no_mangle]
+pub extern "C" fn barkruffle_func_info_record(size: u32, count: u32, bytes: &[u8], k: u32) -> Part
+    ensures { λ r. ⌜ Stands FuncInfo (given size count (now (bytes .entry))) k (r .at) (r .len) ⌝ }
+{
+    part_of(func_info_record_number(size, count, bytes, k), size, k)
+}
+
+// The same of struct bpf_line_info.
+#[no_mangle]
+pub extern "C" fn barkruffle_line_info_record(size: u32, count: u32, bytes: &[u8], k: u32) -> Part
+    ensures { λ r. ⌜ Stands LineInfo (given size count (now (bytes .entry))) k (r .at) (r .len) ⌝ }
+{
+    part_of(line_info_record_number(size, count, bytes, k), size, k)
+}
+
+// The number of what `barkruffle_func_info_record` gives.
+#[no_mangle]
+pub extern "C" fn barkruffle_func_info_record_number(
+    size: u32,
+    count: u32,
+    bytes: &[u8],
+    k: u32,
+    places: &mut [u8],
+) -> u32
+    ensures { λ r. ⌜ Told (now (places .entry)) (now (places .exit)) r (recordReply little FuncInfo (given size count (now (bytes .entry))) k) ⌝ }
+{
+    tell(func_info_record_number(size, count, bytes, k), places)
+}
+
+// The number of what `barkruffle_line_info_record` gives.
+#[no_mangle]
+pub extern "C" fn barkruffle_line_info_record_number(
+    size: u32,
+    count: u32,
+    bytes: &[u8],
+    k: u32,
+    places: &mut [u8],
+) -> u32
+    ensures { λ r. ⌜ Told (now (places .entry)) (now (places .exit)) r (recordReply little LineInfo (given size count (now (bytes .entry))) k) ⌝ }
+{
+    tell(line_info_record_number(size, count, bytes, k), places)
+}

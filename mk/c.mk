@@ -1,0 +1,37 @@
+# The archive for C, and the C programs that hold it to its header. `make test` calls test-c before rt ci.
+RT ?= rt
+GCC ?= gcc
+CFLAGS_C = -std=c99 -O2 -Wall -Wextra -Werror -Iinclude -Itests
+ARCHIVE = target/staticlib/libbarkruffle.a
+C_OUT = target/c
+
+.PHONY: lib test-c bench
+
+lib:
+	$(RT) staticlib barkruffle
+
+$(C_OUT)/%: %.c tests/tables.h include/barkruffle.h lib
+	mkdir -p $(dir $@)
+	$(GCC) $(CFLAGS_C) -o $@ $< $(ARCHIVE) -pthread
+
+test-c: $(C_OUT)/tests/abi $(C_OUT)/tests/stack $(C_OUT)/examples/daemon
+	nm -g --defined-only $(ARCHIVE) | sed -n 's/.* T //p' | sort > $(C_OUT)/exported
+	sed -n 's/^\(uint32_t\|struct barkruffle_part\) \(barkruffle_[a-z_]*\)($$/\2/p' include/barkruffle.h | sort > $(C_OUT)/declared
+	diff $(C_OUT)/declared $(C_OUT)/exported
+	while read f; do grep -qw $$f tests/abi.c || { echo "test-c: tests/abi.c does not call $$f"; exit 1; }; done < $(C_OUT)/declared
+	$(C_OUT)/tests/abi
+	$(C_OUT)/tests/stack
+	$(C_OUT)/examples/daemon > $(C_OUT)/daemon.out
+	diff examples/daemon.out $(C_OUT)/daemon.out
+	if command -v g++ > /dev/null; then \
+	  echo '#include "barkruffle.h"' | g++ -Wall -Wextra -Werror -Iinclude -fsyntax-only -x c++ -; \
+	else echo 'test-c: no g++ here, the header is not tried from C++'; fi
+	if command -v valgrind > /dev/null; then \
+	  valgrind -q --error-exitcode=1 --leak-check=full $(C_OUT)/tests/abi && \
+	  valgrind -q --error-exitcode=1 --leak-check=full $(C_OUT)/examples/daemon > /dev/null; \
+	else echo 'test-c: no valgrind here, runs under it left out'; fi
+
+# Figures, not a test.
+bench: $(C_OUT)/bench/link $(C_OUT)/bench/steps
+	$(C_OUT)/bench/link
+	$(C_OUT)/bench/steps

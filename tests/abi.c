@@ -1,0 +1,337 @@
+/* Holds every function that include/barkruffle.h declares to the built archive. */
+#include "barkruffle.h"
+#include "tables.h"
+
+static int failures;
+
+static void same(const char *what, long got, long want)
+{
+    if (got != want) {
+        printf("FAIL %s: %ld, not %ld\n", what, got, want);
+        failures++;
+    }
+}
+
+static void same_bytes(const char *what, const uint8_t *got, const uint8_t *want, size_t n)
+{
+    for (size_t i = 0; i < n; i++)
+        if (got[i] != want[i]) {
+            printf("FAIL %s: byte %zu is %02x, not %02x\n", what, i, got[i], want[i]);
+            failures++;
+            return;
+        }
+}
+
+static void all(const char *what, const uint8_t *got, uint8_t v, size_t n)
+{
+    for (size_t i = 0; i < n; i++)
+        if (got[i] != v) {
+            printf("FAIL %s: byte %zu is %02x, not %02x\n", what, i, got[i], v);
+            failures++;
+            return;
+        }
+}
+
+/* Place buffers are held to three numbers, at every length from 0 to 16: those that fit whole, zero after, and
+ * nothing past the length. */
+static void same_places(const char *what, const uint8_t *p, size_t room, uint32_t a, uint32_t b, uint32_t c)
+{
+    uint32_t v[3] = {a, b, c};
+    uint8_t want[32];
+    memset(want, 0xee, sizeof want);
+    memset(want, 0, room);
+    for (size_t k = 0; k < 3 && 4 * k + 4 <= room; k++)
+        for (int i = 0; i < 4; i++)
+            want[4 * k + i] = (uint8_t)(v[k] >> (8 * i));
+    same_bytes(what, p, want, sizeof want);
+}
+
+static uint8_t image[BARKRUFFLE_IMAGE + 8], funcs[BARKRUFFLE_IMAGE_FUNC_INFO + 8], lines[BARKRUFFLE_IMAGE_LINE_INFO + 16];
+static uint8_t places[32];
+
+static uint32_t link_in(struct object *o, uint32_t root, size_t image_n, size_t funcs_n, size_t lines_n, size_t room)
+{
+    memset(image, 0xaa, sizeof image);
+    memset(funcs, 0xaa, sizeof funcs);
+    memset(lines, 0xaa, sizeof lines);
+    memset(places, 0xee, sizeof places);
+    uint32_t r = barkruffle_link(LENT(o->code), LENT(o->symbols), LENT(o->functions), LENT(o->relocations),
+                                 LENT(o->instructions), LENT(o->func_info), LENT(o->line_info), root, image, image_n,
+                                 funcs, funcs_n, lines, lines_n, places, room);
+    all("past the image", image + image_n, 0xaa, sizeof image - image_n);
+    all("past the function records", funcs + funcs_n, 0xaa, sizeof funcs - funcs_n);
+    all("past the line records", lines + lines_n, 0xaa, sizeof lines - lines_n);
+    if (r != BARKRUFFLE_DONE) {
+        all("refused image", image, 0, image_n);
+        all("refused function records", funcs, 0, funcs_n);
+        all("refused line records", lines, 0, lines_n);
+    }
+    return r;
+}
+
+/* Document 01: a root of 2 slots that calls itself without a relocation. */
+static void own_call(void)
+{
+    static const uint8_t want[32] = {0x85, 0x10, 0, 0, 1, 0, 0, 0, 0x95, 0, 0, 0, 0, 0, 0, 0,
+                                     0x85, 0x10, 0, 0, 0xff, 0xff, 0xff, 0xff, 0x95, 0, 0, 0, 0, 0, 0, 0};
+    static const uint8_t want_lines[64] = {0, 0, 0, 0, 1, 0, 0, 0, 10, 0, 0, 0, 2, 0, 0, 0,
+                                           1, 0, 0, 0, 1, 0, 0, 0, 11, 0, 0, 0, 3, 0, 0, 0,
+                                           2, 0, 0, 0, 1, 0, 0, 0, 10, 0, 0, 0, 2, 0, 0, 0,
+                                           3, 0, 0, 0, 1, 0, 0, 0, 11, 0, 0, 0, 3, 0, 0, 0};
+    static const uint8_t want_funcs[16] = {0, 0, 0, 0, 7, 0, 0, 0, 2, 0, 0, 0, 7, 0, 0, 0};
+    struct object *o = new_object();
+    code_section(&o->code, 1);
+    function(&o->functions, 1, 2, 0, 0, 1, 2);
+    call(&o->instructions, -1);
+    leave(&o->instructions);
+    func_record(&o->func_info, 0, 7);
+    line_record(&o->line_info, 0, 1, 10, 2);
+    line_record(&o->line_info, 1, 1, 11, 3);
+    for (size_t room = 0; room <= 16; room++) {
+        same("own call", link_in(o, 0, 48, 24, 80, room), BARKRUFFLE_DONE);
+        same_places("own call's places", places, room, 4, 2, 4);
+        same_bytes("own call's image", image, want, 32);
+        all("zero after the image", image + 32, 0, 16);
+        same_bytes("own call's function records", funcs, want_funcs, 16);
+        all("zero after the function records", funcs + 16, 0, 8);
+        same_bytes("own call's line records", lines, want_lines, 64);
+        all("zero after the line records", lines + 64, 0, 16);
+    }
+    /* refusals, each with all places and wiped outputs */
+    same("no room for slots", link_in(o, 0, 31, 24, 80, 12), BARKRUFFLE_NO_ROOM);
+    same_places("no room for slots", places, 12, 0, 0, 0);
+    same("no room for function records", link_in(o, 0, 48, 15, 80, 12), BARKRUFFLE_NO_ROOM);
+    same("no room for line records", link_in(o, 0, 48, 24, 63, 12), BARKRUFFLE_NO_ROOM);
+    same("outputs of length 0", link_in(o, 0, 0, 0, 0, 12), BARKRUFFLE_NO_ROOM);
+    for (size_t room = 0; room <= 16; room++) {
+        same("no root", link_in(o, 1, 48, 24, 80, room), BARKRUFFLE_NO_ROOT);
+        same_places("no root", places, room, 0, 0, 0);
+    }
+    o->line_info.bytes[16] = 5; /* the second record's slot: the root keeps it, its copy is refused */
+    for (size_t room = 0; room <= 16; room++) {
+        same("line outside", link_in(o, 0, 48, 24, 80, room), BARKRUFFLE_LINE_OUTSIDE);
+        same_places("line outside", places, room, 0, 1, 0);
+    }
+    o->instructions.bytes[4] = 3; /* a call to where no function is */
+    for (size_t room = 0; room <= 16; room++) {
+        same("no function there", link_in(o, 0, 48, 24, 80, room), BARKRUFFLE_UNKNOWN_FUNCTION);
+        same_places("no function there", places, room, 0, 0, 0);
+    }
+    o->instructions.len--;
+    same("partial table 6", link_in(o, 0, 48, 24, 80, 12), BARKRUFFLE_BROKEN_ROW);
+    same_places("partial table 6", places, 12, 6, 0, 0);
+    o->functions.len = 65 * 32;
+    same("too many functions", link_in(o, 0, 48, 24, 80, 12), BARKRUFFLE_TOO_MANY_ROWS);
+    same_places("too many functions", places, 12, 3, 0, 0);
+    free(o);
+}
+
+/* Document 01: a root calls F, H and exits; F calls G and exits: starts 0, 3, 5, 6; immediates 2, 4, 1. */
+static void depth_first(void)
+{
+    struct object *o = new_object();
+    code_section(&o->code, 1);
+    symbol(&o->symbols, 5, 1, 0, 2);
+    function(&o->functions, 1, 3, 0, 0, 0, 0);
+    function(&o->functions, 1, 2, 24, 24, 0, 0);
+    function(&o->functions, 1, 1, 40, 40, 0, 0);
+    function(&o->functions, 1, 1, 48, 48, 0, 0);
+    relocation(&o->relocations, 1, 5, 0, 32);
+    call(&o->instructions, 2); /* F at 24 */
+    call(&o->instructions, 4); /* H at 48, by its own offset */
+    leave(&o->instructions);
+    call(&o->instructions, 1); /* G at 40 */
+    leave(&o->instructions);
+    leave(&o->instructions);
+    leave(&o->instructions);
+    same("depth first", link_in(o, 0, 56, 0, 0, 12), BARKRUFFLE_DONE);
+    same_places("depth first", places, 12, 7, 0, 0);
+    same("call of F", number_at(image, 1), 2);
+    same("call of H", number_at(image, 3), 4);
+    same("call of G", number_at(image, 7), 1);
+    same("no room for F", link_in(o, 0, 39, 0, 0, 12), BARKRUFFLE_NO_ROOM);
+    same_places("no room for F", places, 12, 1, 0, 0);
+    o->relocations.bytes[16] = 16; /* size */
+    same("form unknown", link_in(o, 0, 56, 0, 0, 12), BARKRUFFLE_UNKNOWN_FORM);
+    same_places("form unknown", places, 12, 0, 0, 0);
+    o->relocations.bytes[16] = 32;
+    o->relocations.bytes[8] = 16; /* the exit at slot 2 */
+    for (size_t room = 0; room <= 16; room++) {
+        same("neither call nor wide load", link_in(o, 0, 56, 0, 0, room), BARKRUFFLE_NOT_WIDE_LOAD);
+        same_places("neither call nor wide load", places, room, 0, 2, 0);
+    }
+    o->relocations.bytes[8] = 0;
+    o->symbols.bytes[4] = 9; /* a section that is not in table 1 */
+    same("call names no code", link_in(o, 0, 56, 0, 0, 12), BARKRUFFLE_NO_CODE);
+    same_places("call names no code", places, 12, 0, 0, 0);
+    o->symbols.bytes[4] = 1;
+    o->symbols.bytes[0] = 6;
+    same("symbol not in table 2", link_in(o, 0, 56, 0, 0, 12), BARKRUFFLE_UNKNOWN_SYMBOL);
+    same_places("symbol not in table 2", places, 12, 0, 0, 0);
+    o->symbols.bytes[17] = 1; /* padding */
+    same("broken symbol", link_in(o, 0, 56, 0, 0, 12), BARKRUFFLE_BROKEN_ROW);
+    same_places("broken symbol", places, 12, 2, 0, 0);
+    free(o);
+}
+
+static void nothing_lent(void)
+{
+    same("nothing lent", barkruffle_link(NULL, 0, NULL, 0, NULL, 0, NULL, 0, NULL, 0, NULL, 0, NULL, 0, 0, NULL, 0, NULL,
+                                         0, NULL, 0, NULL, 0),
+         BARKRUFFLE_NO_ROOT);
+    same("no function records", barkruffle_func_info(8, 0, NULL, 0, NULL, 0, NULL, 0), BARKRUFFLE_DONE);
+    same("no line records", barkruffle_line_info(16, 0, NULL, 0, NULL, 0, NULL, 0), BARKRUFFLE_DONE);
+    same("size 7", barkruffle_func_info(7, 0, NULL, 0, NULL, 0, NULL, 0), BARKRUFFLE_BROKEN_INFO);
+    same("size 15", barkruffle_line_info(15, 0, NULL, 0, NULL, 0, NULL, 0), BARKRUFFLE_BROKEN_INFO);
+    struct barkruffle_part p = barkruffle_func_info_record(8, 0, NULL, 0, 0);
+    same("no function record: at", (long)p.at, 0);
+    same("no function record: len", (long)p.len, 0);
+    p = barkruffle_line_info_record(16, 0, NULL, 0, 0);
+    same("no line record: at", (long)p.at, 0);
+    same("no line record: len", (long)p.len, 0);
+    same("no function record", barkruffle_func_info_record_number(8, 0, NULL, 0, 0, NULL, 0), BARKRUFFLE_BROKEN_INFO);
+    same("no line record", barkruffle_line_info_record_number(16, 0, NULL, 0, 0, NULL, 0), BARKRUFFLE_BROKEN_INFO);
+    same("no maps", barkruffle_relocate_maps(NULL, 0, NULL, 0, NULL, 0, NULL, 0, NULL, 0, NULL, 0, NULL, 0), BARKRUFFLE_DONE);
+}
+
+typedef uint32_t reader(uint32_t, uint32_t, const uint8_t *, size_t, uint8_t *, size_t, uint8_t *, size_t);
+typedef struct barkruffle_part finder(uint32_t, uint32_t, const uint8_t *, size_t, uint32_t);
+typedef uint32_t teller(uint32_t, uint32_t, const uint8_t *, size_t, uint32_t, uint8_t *, size_t);
+
+/* Three records of `size` bytes, at byte offsets 8, 16 and 24, into rows of `row` bytes. */
+static void records(reader *rows_of, finder *record_of, teller *number_of, uint32_t size, uint32_t row)
+{
+    uint8_t bytes[3 * 40], out[3 * 40], want[3 * 40];
+    size_t n = 3 * size;
+    for (size_t i = 0; i < n; i++)
+        bytes[i] = (uint8_t)(i + 1);
+    for (uint32_t k = 0; k < 3; k++) {
+        memset(bytes + k * size, 0, 4);
+        bytes[k * size] = (uint8_t)(8 * (k + 1));
+    }
+    memset(want, 0, sizeof want);
+    for (uint32_t k = 0; k < 3; k++) {
+        memcpy(want + k * row, bytes + k * size, row);
+        want[k * row] = (uint8_t)(k + 1);
+    }
+    for (size_t room = 0; room <= 16; room++) {
+        memset(out, 0xaa, sizeof out);
+        memset(places, 0xee, sizeof places);
+        same("records", rows_of(size, 3, bytes, n, out, sizeof out, places, room), BARKRUFFLE_DONE);
+        same_places("records' places", places, room, 3, 0, 0);
+        same_bytes("rows", out, want, sizeof out);
+        memset(places, 0xee, sizeof places);
+        same("record 2", number_of(size, 3, bytes, n, 2, places, room), BARKRUFFLE_DONE);
+        same_places("record 2's places", places, room, 3, 0, 0);
+        memset(places, 0xee, sizeof places);
+        same("record 3", number_of(size, 3, bytes, n, 3, places, room), BARKRUFFLE_BROKEN_INFO);
+        same_places("record 3's places", places, room, 0, 0, 0);
+    }
+    for (uint32_t k = 0; k < 5; k++) {
+        struct barkruffle_part p = record_of(size, 3, bytes, n, k);
+        same("record's start", (long)p.at, k < 3 ? (long)(k * size) : 0);
+        same("record's length", (long)p.len, k < 3 ? (long)size : 0);
+    }
+    memset(out, 0xaa, sizeof out);
+    memset(places, 0xee, sizeof places);
+    same("output too short", rows_of(size, 3, bytes, n, out, 3 * row - 1, places, 12), BARKRUFFLE_NO_ROOM);
+    same_places("output too short", places, 12, 0, 0, 0);
+    all("output too short", out, 0, 3 * row - 1);
+    all("past the output", out + 3 * row - 1, 0xaa, sizeof out - 3 * row + 1);
+    memset(out, 0xaa, sizeof out);
+    same("wrong length", rows_of(size, 3, bytes, n - 1, out, sizeof out, places, 12), BARKRUFFLE_BROKEN_INFO);
+    all("wrong length", out, 0, sizeof out);
+    bytes[size] = 17;
+    memset(out, 0xaa, sizeof out);
+    same("off the grid", rows_of(size, 3, bytes, n, out, sizeof out, places, 12), BARKRUFFLE_BROKEN_INFO);
+    all("off the grid", out, 0, sizeof out);
+    struct barkruffle_part p = record_of(size, 3, bytes, n, 0);
+    same("off the grid: at", (long)p.at, 0);
+    same("off the grid: len", (long)p.len, 0);
+    same("off the grid: number", number_of(size, 3, bytes, n, 0, places, 12), BARKRUFFLE_BROKEN_INFO);
+}
+
+static uint32_t map_in(struct object *o, size_t room)
+{
+    memset(places, 0xee, sizeof places);
+    return barkruffle_relocate_maps(LENT(o->code), LENT(o->symbols), LENT(o->functions), LENT(o->relocations),
+                                    LENT(o->maps), LENT(o->instructions), places, room);
+}
+
+/* Document 01: `18 01`, immediate 4, address 16, fd 7; with data and without. */
+static void map_step(void)
+{
+    static const uint8_t with_data[24] = {0x18, 0x21, 0, 0, 7, 0, 0, 0, 0, 0, 0, 0, 20, 0, 0, 0, 0x95, 0, 0, 0, 0, 0, 0, 0};
+    static const uint8_t no_data[24] = {0x18, 0x11, 0, 0, 7, 0, 0, 0, 0, 0, 0, 0, 5, 0, 0, 0, 0x95, 0, 0, 0, 0, 0, 0, 0};
+    struct object *o = new_object();
+    uint8_t before[24];
+    code_section(&o->code, 1);
+    symbol(&o->symbols, 1, 9, 16, 0);
+    function(&o->functions, 1, 3, 0, 0, 0, 0);
+    relocation(&o->relocations, 1, 1, 0, 64);
+    map(&o->maps, 9, NONE, 7, 1);
+    slot(&o->instructions, 0x18, 0x01, 0, 4);
+    slot(&o->instructions, 0, 0, 0, 5);
+    leave(&o->instructions);
+    memcpy(before, o->instructions.bytes, 24);
+    for (size_t room = 0; room <= 16; room++) {
+        memcpy(o->instructions.bytes, before, 24);
+        same("map with data", map_in(o, room), BARKRUFFLE_DONE);
+        same_places("map with data", places, room, 1, 0, 0);
+        same_bytes("map with data", o->instructions.bytes, with_data, 24);
+    }
+    memcpy(o->instructions.bytes, before, 24);
+    o->maps.bytes[12] = 0;
+    same("map without data", map_in(o, 12), BARKRUFFLE_DONE);
+    same_bytes("map without data", o->instructions.bytes, no_data, 24);
+    /* refusals leave table 6 as it was */
+    memcpy(o->instructions.bytes, before, 24);
+    o->maps.bytes[12] = 2;
+    same("broken map", map_in(o, 12), BARKRUFFLE_BROKEN_ROW);
+    same_places("broken map", places, 12, 5, 0, 0);
+    same_bytes("broken map", o->instructions.bytes, before, 24);
+    o->maps.bytes[12] = 1;
+    o->maps.bytes[0] = 8;
+    same("no map", map_in(o, 12), BARKRUFFLE_SECTION_NOT_FOUND);
+    same_bytes("no map", o->instructions.bytes, before, 24);
+    o->maps.bytes[0] = 9;
+    o->relocations.bytes[8] = 4;
+    same("off the grid", map_in(o, 12), BARKRUFFLE_INVALID_RELOCATION_OFFSET);
+    same_bytes("off the grid", o->instructions.bytes, before, 24);
+    o->relocations.bytes[8] = 16;
+    for (size_t room = 0; room <= 16; room++) {
+        same("not a wide load", map_in(o, room), BARKRUFFLE_NOT_WIDE_LOAD);
+        same_places("not a wide load", places, room, 0, 2, 0);
+        same_bytes("not a wide load", o->instructions.bytes, before, 24);
+    }
+    /* immediate 2147483640: address 7 passes, address 8 gives 7 */
+    o->relocations.bytes[8] = 0;
+    memcpy(before + 4, (const uint8_t[]){0xf8, 0xff, 0xff, 0x7f}, 4);
+    memcpy(o->instructions.bytes, before, 24);
+    o->symbols.bytes[8] = 8;
+    same("value outside", map_in(o, 12), BARKRUFFLE_VALUE_OUTSIDE);
+    same_places("value outside", places, 12, 0, 0, 0);
+    same_bytes("value outside", o->instructions.bytes, before, 24);
+    o->symbols.bytes[8] = 7;
+    same("value at the end", map_in(o, 12), BARKRUFFLE_DONE);
+    same("value at the end", number_at(o->instructions.bytes, 3), 0x7fffffff);
+    free(o);
+}
+
+int main(void)
+{
+    own_call();
+    depth_first();
+    nothing_lent();
+    records(barkruffle_func_info, barkruffle_func_info_record, barkruffle_func_info_record_number, 8, 8);
+    records(barkruffle_func_info, barkruffle_func_info_record, barkruffle_func_info_record_number, 12, 8);
+    records(barkruffle_line_info, barkruffle_line_info_record, barkruffle_line_info_record_number, 16, 16);
+    records(barkruffle_line_info, barkruffle_line_info_record, barkruffle_line_info_record_number, 24, 16);
+    map_step();
+    if (failures) {
+        printf("abi: %d failed\n", failures);
+        return 1;
+    }
+    printf("abi: all as declared\n");
+    return 0;
+}

@@ -1,0 +1,73 @@
+/* How deep a link goes into the stack: a thread on a stack of our own, filled with a pattern, links a chain of 64
+ * functions, the deepest there is, and what it left of the pattern is counted. Fails past what the header says. */
+#define _POSIX_C_SOURCE 200112L
+#include <pthread.h>
+#include "barkruffle.h"
+#include "tables.h"
+
+#define STACK (8u << 20)
+#define SAID (128u << 10)
+
+static uint8_t image[BARKRUFFLE_IMAGE], funcs[BARKRUFFLE_IMAGE_FUNC_INFO], lines[BARKRUFFLE_IMAGE_LINE_INFO];
+static uint8_t places[BARKRUFFLE_PLACES];
+static struct object *o;
+static uint32_t result;
+
+static void *idle(void *unused) { return unused; }
+
+static void *link_chain(void *unused)
+{
+    result = barkruffle_link(LENT(o->code), LENT(o->symbols), LENT(o->functions), LENT(o->relocations),
+                             LENT(o->instructions), LENT(o->func_info), LENT(o->line_info), 0, image, sizeof image,
+                             funcs, sizeof funcs, lines, sizeof lines, places, sizeof places);
+    return unused;
+}
+
+/* Bytes of the stack that a thread has written to. */
+static size_t depth_of(void *(*run)(void *), uint8_t *stack)
+{
+    pthread_attr_t attr;
+    pthread_t thread;
+    size_t k = 0;
+    memset(stack, 0xa5, STACK);
+    pthread_attr_init(&attr);
+    if (pthread_attr_setstack(&attr, stack, STACK) || pthread_create(&thread, &attr, run, NULL) || pthread_join(thread, NULL)) {
+        fprintf(stderr, "no thread\n");
+        exit(2);
+    }
+    pthread_attr_destroy(&attr);
+    while (k < STACK && stack[k] == 0xa5)
+        k++;
+    return STACK - k;
+}
+
+int main(void)
+{
+    void *stack;
+    if (posix_memalign(&stack, 4096, STACK)) {
+        fprintf(stderr, "no memory\n");
+        return 2;
+    }
+    o = new_object();
+    code_section(&o->code, 1);
+    for (uint32_t k = 0; k < 64; k++) { /* each calls the next, the last the first: 65 deep with the root's copy */
+        function(&o->functions, 1, 2, 16 * k, 16 * k, 1, 1);
+        func_record(&o->func_info, 0, k);
+        line_record(&o->line_info, 0, 1, k, 1);
+        call(&o->instructions, k < 63 ? 1 : -127);
+        leave(&o->instructions);
+    }
+    size_t before = depth_of(idle, stack), with = depth_of(link_chain, stack);
+    if (result != BARKRUFFLE_DONE || number_at(places, 0) != 130) {
+        printf("stack: link gave %u, %u slots\n", result, number_at(places, 0));
+        return 1;
+    }
+    printf("stack: %zu bytes over a thread that does nothing\n", with - before);
+    free(o);
+    free(stack);
+    if (with - before > SAID) {
+        printf("stack: the header says at most %u\n", (unsigned)SAID);
+        return 1;
+    }
+    return 0;
+}
