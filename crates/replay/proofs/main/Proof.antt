@@ -1,0 +1,48 @@
+-- `replay::main` is safe and ends. The measure is the number of cases that may still come. Assumes nothing.
+use borrow.Author.Needs.{needs}
+use Prim.Native.Nat.{_-_}
+use Rattle.replay.proofs.main.Statement.{statement}
+use Rattle.replay.proofs.main.Tie as tie
+
+abbrev Inv-loop : tie.InvT-loop
+Inv-loop code₀ symbols₀ functions₀ relocations₀ maps₀ instructions₀ func-info₀ line-info₀ data₀ image₀ image-func-info₀ image-line-info₀ index₀ code symbols functions relocations maps instructions func-info line-info «data» image image-func-info image-line-info index =
+    Unit {0}
+
+abbrev μ-loop : tie.MeasureT-loop
+μ-loop code₀ symbols₀ functions₀ relocations₀ maps₀ instructions₀ func-info₀ line-info₀ data₀ image₀ image-func-info₀ image-line-info₀ index₀ code symbols functions relocations maps instructions func-info line-info «data» image image-func-info image-line-info index =
+    0xFFFF_FFFF_FFFF_FFFF - index
+
+loop-holds : tie.Need-loop-holds Inv-loop μ-loop
+loop-holds c = search needs
+
+one-case-requires : tie.Need-one-case-requires Inv-loop μ-loop
+one-case-requires c κs = search needs
+
+add-index : tie.Need-add-index Inv-loop μ-loop
+add-index c = search needs
+
+loop-less : tie.Need-loop-less Inv-loop μ-loop
+loop-less c = search needs
+
+loop-again : tie.Need-loop-again Inv-loop μ-loop
+loop-again c = search needs
+
+returns : tie.Need-returns Inv-loop μ-loop
+returns c = search needs
+
+returns-2 : tie.Need-returns-2 Inv-loop μ-loop
+returns-2 c = search needs
+
+pub main-spec : {M : Type 1} → statement M
+main-spec =
+    tie.close
+    (tie.spec
+    Inv-loop
+    μ-loop
+    loop-holds
+    one-case-requires
+    add-index
+    loop-less
+    loop-again
+    returns
+    returns-2)

@@ -1,0 +1,55 @@
+-- `replay::show::checksum` is safe and ends: the sum stays below 2^32, and the index within the slice. Assumes nothing.
+use Prim.Native.Nat.{_≤_, _<_, _-_}
+use borrow.Author.Needs.{needs}
+use lib.ListN.{length}
+use Rattle.replay.proofs.show.checksum.Statement.{statement}
+use Rattle.replay.proofs.show.checksum.Tie as tie
+
+abbrev Inv-loop : tie.InvT-loop
+Inv-loop s sum₀ i₀ sum i = (i ≤ length s) × (sum < 0x1_0000_0000)
+
+abbrev μ-loop : tie.MeasureT-loop
+μ-loop s sum₀ i₀ sum i = length s - i
+
+loop-holds : tie.Need-loop-holds Inv-loop μ-loop
+loop-holds c = search needs
+
+mul-sum : tie.Need-mul-sum Inv-loop μ-loop
+mul-sum c = search needs
+
+shared-slice-read-wide : tie.Need-shared-slice-read-wide Inv-loop μ-loop
+shared-slice-read-wide c = search needs
+
+wide-requires : tie.Need-wide-requires Inv-loop μ-loop
+wide-requires c κs = search needs
+
+add-sum : tie.Need-add-sum Inv-loop μ-loop
+add-sum c = search needs
+
+add-i : tie.Need-add-i Inv-loop μ-loop
+add-i c = search needs
+
+loop-less : tie.Need-loop-less Inv-loop μ-loop
+loop-less c = search needs
+
+loop-again : tie.Need-loop-again Inv-loop μ-loop
+loop-again c = search needs
+
+returns : tie.Need-returns Inv-loop μ-loop
+returns c = search needs
+
+pub checksum-spec : {M : Type 1} → statement M
+checksum-spec =
+    tie.close
+    (tie.spec
+    Inv-loop
+    μ-loop
+    loop-holds
+    mul-sum
+    shared-slice-read-wide
+    wide-requires
+    add-sum
+    add-i
+    loop-less
+    loop-again
+    returns)
