@@ -10,6 +10,7 @@ It prints how many answers each edit changes, up to ten.  None may be 0.
 
 import os
 import random
+import resource
 import struct
 import sys
 import types
@@ -67,9 +68,13 @@ EDITS = [
     ("13 before 2", "    number, places = check_link(tables, root)\n", "    number, places = check_link(tables, root)\n    if number == 2 and root >= len(function_rows(functions)):\n        number, places = 13, (0, 0, 0)\n"),
     ("2 of one table before 1 of the next", "    for table in given:\n        if table <= 5:", "        if table <= 5:\n            check_rows(table, tables[table])\n    for table in given:\n        if table <= 5:"),
     ("partial rows not counted", " + (1 if len(tables[table]) % size else 0)", ""),
-    ("sums modulo 2^32", "if len(data) != total * ROW_SIZE[table]:", "if len(data) != total % 2**32 * ROW_SIZE[table]:"),
-    ("bytes modulo 2^32", "if len(data) != total * ROW_SIZE[table]:", "if len(data) != total * ROW_SIZE[table] % 2**32:"),
-    ("count times size modulo 2^32", "if count * size != len(data):", "if count * size % 2**32 != len(data):"),
+    # An edit that would accept counts of 2^28 and more stops there: no list is made of them.
+    ("sums modulo 2^32", "    if len(data) != total * ROW_SIZE[table]:",
+     "    if total >= 2**32 and len(data) == total % 2**32 * ROW_SIZE[table]:\n        raise LookupError\n    if len(data) != total * ROW_SIZE[table]:"),
+    ("bytes modulo 2^32", "    if len(data) != total * ROW_SIZE[table]:",
+     "    if total >= 2**28 and len(data) == total * ROW_SIZE[table] % 2**32:\n        raise LookupError\n    if len(data) != total * ROW_SIZE[table]:"),
+    ("count times size modulo 2^32", "    if count * size != len(data):",
+     "    if count * size >= 2**32 and count * size % 2**32 == len(data):\n        raise LookupError\n    if count * size != len(data):"),
     ("11 before 14", "    if info_broken(kind, size, count, data):\n        return 14, (0, 0, 0), bytes(out_len)\n", "    if count * LEAST[kind] > out_len and size >= LEAST[kind]:\n        return 11, (0, 0, 0), bytes(out_len)\n    if info_broken(kind, size, count, data):\n        return 14, (0, 0, 0), bytes(out_len)\n"),
     ("k one too large", "or k >= count:", "or k > count:"),
     ("part without its tail", "data[k * size:(k + 1) * size]", "data[k * size:k * size + LEAST[kind]]"),
@@ -123,7 +128,7 @@ def answer(model, header, parts):
         else:
             out = model.record_part(read[kind], header[11], header[12], data, header[10])
         return (out[0], model.place_buffer(out[1], header[17])) + tuple(out[2:])
-    except (ArithmeticError, LookupError, RecursionError, ValueError) as error:
+    except (ArithmeticError, LookupError, MemoryError, RecursionError, ValueError) as error:
         return repr(error)
 
 
@@ -135,6 +140,8 @@ def edited(text, pairs):
 
 
 def main():
+    # An edited model may run away: it gets a gigabyte and no more.
+    resource.setrlimit(resource.RLIMIT_AS, (2**30, 2**30))
     with open(os.path.join(HERE, "model.py")) as file:
         text = file.read()
     with open(os.path.join(REPLAY, "stdin"), "rb") as file:
