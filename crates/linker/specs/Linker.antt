@@ -18,7 +18,7 @@ use Rattle.rules.specs.Link.{Outcome, linked, refuses, unfinished, startOf, vis
 use Rattle.rules.specs.Tables.{Tables, objectOf}
 use Rattle.rules.specs.Records.{imageFunctions, imageLines, admits, linkStep}
 use Rattle.rules.specs.Answers.{reply, replyOf}
-use Rattle.rules.specs.Rows.{wholeRows, Offered, functionSlots, tablesOf, mostImageSlots}
+use Rattle.rules.specs.Rows.{mostRows, wholeRows, Offered, functionSlots, tablesOf, mostImageSlots, mostImageFunctions, mostImageLines}
 use Rattle.rules.specs.Lookups.{LinkChecked}
 use Rattle.rules.specs.Entries.{funcInfoBytes, lineInfoBytes, refusalReply, Outputs, roomIn, LinkResult, refusedLink, byOutcome}
 use Rattle.linker.specs.declared.State.{State}
@@ -52,14 +52,14 @@ unplaced (s ∷ ss) = tally (eqb s 0) (unplaced ss)
 
 -- counts and buffers that fit each other, zero after what is used
 pub record Valid (st : State) (b : Buffers) : Type 0 where
-  pub long : length (st .starts) ≡ 64
+  pub long : length (st .starts) ≡ mostRows Functions
   pub some-slot : 1 ≤ st .used .slots
   pub most : st .used .slots ≤ mostImageSlots
   pub slots : 8 * st .used .slots ≤ length (b .image)
   pub funcs : 8 * st .used .funcs ≤ length (b .funcs)
   pub lines : 16 * st .used .lines ≤ length (b .lines)
-  pub most-funcs : st .used .funcs ≤ 256
-  pub most-lines : st .used .lines ≤ 4096
+  pub most-funcs : st .used .funcs ≤ mostImageFunctions
+  pub most-lines : st .used .lines ≤ mostImageLines
   pub starts : (row : ℕ) → getD (st .starts) row 0 < mostImageSlots
   pub image-rest : drop (8 * st .used .slots) (b .image) ≡ replicate (length (b .image) - 8 * st .used .slots) 0
   pub funcs-rest : drop (8 * st .used .funcs) (b .funcs) ≡ replicate (length (b .funcs) - 8 * st .used .funcs) 0

@@ -88,7 +88,7 @@ abbrev pub byOutcome : Order → Tables → ℕ → Outputs → Outcome → Link
 byOutcome order tables root lent (linked final) =
     acceptedLink order lent (final .image) (imageFunctions tables root (final .placed)) (imageLines tables root (final .placed))
 byOutcome order tables root lent (refuses why) = refusedLink lent (refusalReply why)
--- never: `link-ends`
+-- never: `step-finishes`
 byOutcome order tables root lent unfinished = refusedLink lent (reply 0 0 0 0)
 
 abbrev pub unlessLinkRefused : Order → Offered → ℕ → Outputs → Option Reply → LinkResult
