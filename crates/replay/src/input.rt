@@ -1,6 +1,9 @@
 // A case as it stands in the input.
-ghost use Prim.Native.Nat.{_<_};
+ghost use mathlib.Core.Path.{_≡_};
+ghost use Prim.Native.Nat.{_<_, min};
+ghost use lib.ListN.{length};
 ghost use Rattle.io.specs.Counts.{Counts};
+ghost use Rattle.replay.specs.Input.{wordAt, Filled};
 use libc::STDIN_FILENO;
 
 // The words of a header, by number.
@@ -40,6 +43,7 @@ pub const PLACES: usize = 17;
 
 pub fn word(header: &[u8; 96], i: usize) -> u32
     requires { ⌜ i < 24 ⌝ }
+    ensures { λ r. ⌜ r ≡ wordAt (now (header .entry)) i ⌝ }
 {
     wire::u32_at(header, 4 * i)
 }
@@ -48,13 +52,16 @@ pub fn word(header: &[u8; 96], i: usize) -> u32
 pub fn part(header: &[u8; 96], i: usize, buf: &[u8]) -> usize
     requires { ⌜ i < 24 ⌝ }
     ensures { λ r. ⌜ Counts r (now (buf .entry)) ⌝ }
+    ensures { λ r. ⌜ r ≡ min (wordAt (now (header .entry)) i) (length (now (buf .entry))) ⌝ }
 {
-    io::count(word(header, i) as isize, buf)
+    let n = word(header, i) as usize;
+    if n < buf.len() { n } else { buf.len() }
 }
 
 // Fills the part of `buf` that a header has at `i`. False where it does not fit, or the input ends before.
 pub fn fill(header: &[u8; 96], i: usize, buf: &mut [u8]) -> bool
     requires { ⌜ i < 24 ⌝ }
+    ensures { λ r. ⌜ Filled (wordAt (now (header .entry)) i) (now (buf .entry)) (now (buf .exit)) r ⌝ }
 {
     let n = part(header, i, buf);
     if n < word(header, i) as usize {

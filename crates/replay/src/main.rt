@@ -1,9 +1,9 @@
 // Runs the stored cases of document 01 through the library. `python3 tools/cases.py` makes the cases (stdin) and, with an
 // independent model, the answers (stdout), and says how both are laid out.
 mod input;
-mod reply;
 mod run;
 mod show;
+mod stain;
 
 use input::CODE;
 use input::COUNT;
@@ -27,6 +27,7 @@ use input::part;
 use input::word;
 use libc::STDIN_FILENO;
 use libc::STDOUT_FILENO;
+use stain::stain;
 
 fn bad() -> bool {
     io::write_all(STDOUT_FILENO, b"bad case\n");
@@ -46,7 +47,8 @@ fn has_room(header: &[u8; 96]) -> bool {
         && word(header, PLACES) <= 16
 }
 
-fn link(
+// With the outputs cut to what the case asks for.
+fn link_into(
     index: u64,
     header: &[u8; 96],
     code: &[u8],
@@ -68,10 +70,6 @@ fn link(
     let n6 = part(header, INSTRUCTIONS, instructions);
     let n7 = part(header, FUNC_INFO, func_info);
     let n8 = part(header, LINE_INFO, line_info);
-    let m1 = part(header, OUT, image);
-    let m2 = part(header, OUT_FUNC_INFO, image_func_info);
-    let m3 = part(header, OUT_LINE_INFO, image_line_info);
-    let p = part(header, PLACES, places);
     run::link(
         index,
         &code[..n1],
@@ -81,10 +79,46 @@ fn link(
         &instructions[..n6],
         &func_info[..n7],
         &line_info[..n8],
+        word(header, ROOT),
+        image,
+        image_func_info,
+        image_line_info,
+        places,
+    );
+}
+
+fn link(
+    index: u64,
+    header: &[u8; 96],
+    code: &[u8],
+    symbols: &[u8],
+    functions: &[u8],
+    relocations: &[u8],
+    instructions: &[u8],
+    func_info: &[u8],
+    line_info: &[u8],
+    image: &mut [u8],
+    image_func_info: &mut [u8],
+    image_line_info: &mut [u8],
+    places: &mut [u8],
+) {
+    let m1 = part(header, OUT, image);
+    let m2 = part(header, OUT_FUNC_INFO, image_func_info);
+    let m3 = part(header, OUT_LINE_INFO, image_line_info);
+    let p = part(header, PLACES, places);
+    link_into(
+        index,
+        header,
+        code,
+        symbols,
+        functions,
+        relocations,
+        instructions,
+        func_info,
+        line_info,
         &mut image[..m1],
         &mut image_func_info[..m2],
         &mut image_line_info[..m3],
-        word(header, ROOT),
         &mut places[..p],
     );
 }
@@ -148,6 +182,7 @@ fn reader(index: u64, header: &[u8; 96], data: &[u8], out: &mut [u8], places: &m
         6 => run::line_record(index, size, count, &data[..n], k, &mut places[..p]),
         _ => return bad(),
     }
+    ;
     true
 }
 
@@ -175,6 +210,17 @@ fn fill_all(
         && fill(header, DATA, data)
 }
 
+// Other bytes than zero in every output, before a case.
+fn stain_all(
+    image: &mut [u8; 33000],
+    image_func_info: &mut [u8; 2100],
+    image_line_info: &mut [u8; 66000],
+) {
+    stain(image);
+    stain(image_func_info);
+    stain(image_line_info);
+}
+
 // One case. False at the end of the input, and at a case that is cut short or does not fit.
 fn one_case(
     index: u64,
@@ -192,7 +238,7 @@ fn one_case(
     image_line_info: &mut [u8; 66000],
 ) -> bool {
     let mut header = [0u8; 96];
-    let mut places = [0u8; 16];
+    let mut places = [0xEEu8; 16];
     let got = io::read_full(STDIN_FILENO, &mut header);
     if got == 0 {
         return false;
@@ -214,6 +260,7 @@ fn one_case(
     ) {
         return bad();
     }
+    stain_all(image, image_func_info, image_line_info);
     if word(&header, KIND) == 1 {
         link(
             index,

@@ -1,8 +1,6 @@
 // A line of the output: index, kind and number, the place buffer, and checksums.
 ghost use Prim.Native.Nat.{_<_};
-use crate::reply::reply_of;
 use libc::STDOUT_FILENO;
-use rules::Answer;
 
 fn wide(x: u8) -> u64
     ensures { λ r. ⌜ r < 256 ⌝ }
@@ -29,25 +27,13 @@ fn hex(s: &[u8]) {
     }
 }
 
-// Bytes that no answer leaves where it promises others.
-pub fn stain(out: &mut [u8]) {
-    let mut i = 0;
-    while i < out.len() {
-        out[i] = 0xEE;
-        i += 1;
-    }
-}
-
 // `INDEX KIND NUMBER | places |`
-pub fn answer(index: u64, kind: u32, a: Answer, places: &mut [u8]) {
-    let r = reply_of(a);
-    stain(places);
-    wire::put_places(places, r.a, r.b, r.c);
+pub fn answer(index: u64, kind: u32, number: u32, places: &[u8]) {
     io::print_decimal(STDOUT_FILENO, index);
     io::write_all(STDOUT_FILENO, b" ");
     io::print_decimal(STDOUT_FILENO, kind as u64);
     io::write_all(STDOUT_FILENO, b" ");
-    io::print_decimal(STDOUT_FILENO, r.number as u64);
+    io::print_decimal(STDOUT_FILENO, number as u64);
     io::write_all(STDOUT_FILENO, b" | ");
     hex(places);
     io::write_all(STDOUT_FILENO, b" |");
@@ -58,7 +44,9 @@ pub fn sum(s: &[u8]) {
     io::print_decimal(STDOUT_FILENO, checksum(s));
 }
 
-pub fn length(s: &[u8]) {
+// A checksum and the length.
+pub fn part(s: &[u8]) {
+    sum(s);
     io::write_all(STDOUT_FILENO, b" ");
     io::print_decimal(STDOUT_FILENO, s.len() as u64);
 }
