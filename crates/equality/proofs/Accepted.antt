@@ -18,8 +18,10 @@ use Rattle.rules.specs.Maps as Maps
 use Rattle.rules.specs.Maps.{only, judge, allTasks, firstRefusal, applied, rewriteAll, symbolOf, MapOutcome, mapped, mapStep}
 use Rattle.rules.specs.Records.{Room, imageFunctions, imageLines, admits, roomFor, strayLine, linkStep}
 use Rattle.equality.specs.Met.{visitMet, appendMet, linkMet}
-use Rattle.equality.specs.Domain.{Hidden, crateOf, 2⁴⁸, Plain, Limits, reached, topImmediate, Perm, done, keep, MapClauses, CallDomain, withInstructions}
+use Rattle.equality.specs.Domain.{Hidden, crateOf, 2⁴⁸, Plain, Limits, reached, topImmediate, MapClauses, CallDomain, withInstructions}
 use Rattle.equality.specs.Demand2.{both-steps, image, refusal, ourSteps, Valid, Domain, SameImage}
+use Rattle.equality.proofs.Clauses.{domain-of}
+use Rattle.equality.proofs.Perms.{perm-refl}
 use Rattle.equality.proofs.Valid.{steps-rise}
 use Rattle.equality.proofs.Demand2.{demand-2}
 
@@ -109,10 +111,6 @@ whole (suc zero) = omega arith
 whole (suc (suc zero)) = omega arith
 whole (suc (suc (suc row))) = omega arith
 
-perm-refl : {A : Type 0} (xs : List A) → Perm xs xs
-perm-refl [] = done
-perm-refl (x ∷ xs) = keep x (perm-refl xs)
-
 one-map : (m : MapRow) → List·Memᴰ m (tables .maps) → m ≡ the-map
 one-map m a = go (List·Memᴰ·cases-cons a)
   where
@@ -129,11 +127,11 @@ never e = let z : _≡_ {A = ℕ} 0 1 = cc in omega arith
 
 maps : MapClauses tables hidden
 maps = record {
-  order = λ home. perm-refl (only (λ r. eqb (r .home) home) (tables .relocations));
-  map-order = perm-refl (tables .maps);
+  orders = record { order = λ home. perm-refl (only (λ r. eqb (r .home) home) (tables .relocations)); map-order = perm-refl (tables .maps) };
   alone = λ m x a b. λ e h. one-map x b ∙ sym (one-map m a);
   single = λ why e. absurd (never (sym nothing-refused ∙ e));
-  five = λ why e. absurd (never (sym nothing-refused ∙ e));
+  not-text = λ why e. absurd (never (sym nothing-refused ∙ e));
+  no-map = λ why e. absurd (never (sym nothing-refused ∙ e));
 }
 
 abbrev isTop : ℤ → Bool
@@ -228,13 +226,9 @@ valid = record {
 }
 
 pub inside : Domain tables hidden room 0
-inside = record {
-  maps = maps;
-  valid = valid;
-  compared = λ why e. absurd (not-refused why (sym accepted ∙ e));
-  calls = λ instructions count e.
-      subst (λ x. CallDomain (withInstructions tables x) hidden room 0) (ap instructionsOf (sym maps-answer ∙ e)) calls;
-}
+inside =
+    domain-of valid maps (λ why e. absurd (not-refused why (sym accepted ∙ e)))
+    (λ instructions count e. subst (λ x. CallDomain (withInstructions tables x) hidden room 0) (ap instructionsOf (sym maps-answer ∙ e)) calls)
 
 -- so the crate gives that image and those records
 pub crate-gives : SameImage tables 0 final (both-steps (crateOf tables hidden) (tables .maps) 1 0)

@@ -1,6 +1,6 @@
 -- The object of proofs/Accepted.antt as bytes: 1, 2 and 13 let it pass, it is in the domain of the entries, and what ours write of it is the crate's.
 -- Assumes nothing.
-use mathlib.Core.Path.{_≡_, refl, sym, _∙_, subst}
+use mathlib.Core.Path.{_≡_, refl, sym, subst}
 use mathlib.Core.Bool.{Bool, true, _&&_}
 use mathlib.Core.Option.{none}
 use mathlib.Core.List.{List, [], _∷_, _++_}
@@ -8,17 +8,15 @@ use Prim.Native.Nat.{ℕ, zero, suc, _<_}
 use native.Mathlib.Omega.{arith}
 use lib.Dec.{ltb}
 use borrow.Author.Tests.{ltb-true}
-use Rattle.rules.specs.Object.{Insn}
-use Rattle.rules.specs.Link.{Refusal}
 use Rattle.rules.specs.Bytes.{little, byteAt, bytes4, u16At, u32At, u64At, signed, unsigned, decode, encode, decoded, encoded}
 use Rattle.rules.specs.Tables.{rowOf}
-use Rattle.rules.specs.Maps.{mapped, mapStep}
 use Rattle.rules.specs.Rows.{codeSection, symbolIndex, symbolSection, symbolAddress, symbolKind, functionSection, functionSlots, functionAddress, functionOffset, functionFuncInfo, functionLineInfo, relocationSection, relocationSymbol, relocationOffset, relocationSize, mapSection, mapSymbol, mapFd, mapHasData, recordSlot, recordType, recordFile, recordLine, recordColumn, isGood, total, tooMany, firstBroken, brokenIn, broken, Offered, tablesOf, mapStepRefusal, linkRefusal}
 use Rattle.rules.specs.Entries.{Outputs}
 use Rattle.rules.proofs.Passed.{and-left, and-right}
-use Rattle.equality.specs.Domain.{crateOf, Compared, MapClauses, CallDomain, withInstructions}
-use Rattle.equality.specs.Demand2.{both-steps, refusal, ourSteps}
+use Rattle.equality.specs.Domain.{crateOf}
+use Rattle.equality.specs.Demand2.{both-steps, valid-tables, Except}
 use Rattle.equality.specs.Entries.{ourEntries, EntryDomain, EqualBytes}
+use Rattle.equality.proofs.Clauses.{fewer}
 use Rattle.equality.proofs.Accepted.{tables, hidden, room, inside}
 use Rattle.equality.proofs.Entries.{demand-2-entries}
 
@@ -87,9 +85,7 @@ in-domain = record {
   link-passes = link-passes;
   bytes = all-bytes (offered .instructions) instruction-bytes;
   map-bytes = all-bytes (offered .maps) refl;
-  maps = subst (λ t. MapClauses t hidden) (sym offered-is) (inside .maps);
-  compared = subst (λ t. (why : Refusal) → ourSteps t room 0 ≡ refusal why → Compared (why .number)) (sym offered-is) (inside .compared);
-  calls = subst (λ t. (instructions : List Insn) (count : ℕ) → mapStep t ≡ mapped instructions count → CallDomain (withInstructions t instructions) hidden room 0) (sym offered-is) (inside .calls);
+  clauses = subst (λ t. Except valid-tables t hidden room 0) (sym offered-is) (fewer valid-tables inside);
 }
 
 pub bytes-equal : EqualBytes little lent (ourEntries little offered 0 lent) (both-steps (crateOf tables hidden) (tables .maps) 1 0)

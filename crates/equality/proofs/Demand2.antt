@@ -22,9 +22,10 @@ use Rattle.rules.specs.Records.{Room, imageFunctions, imageLines, admits, rootA
 use Rattle.equality.specs.Crate as Crate
 use Rattle.equality.specs.Crate.{Result, err, bind, Linker, object-relocate-maps, get-function, or-unknown-program, relocate-calls}
 use Rattle.equality.specs.Domain.{Hidden, crateFunction, crateOf, Limits, Plain, Compared, causeOf, MapDomain, CallDomain, LinkDomain, withInstructions}
-use Rattle.equality.specs.Demand2.{with-functions, both-steps, refusal, byLink, byMaps, ourSteps, Domain, Equal}
+use Rattle.equality.specs.Demand2.{with-functions, both-steps, refusal, byLink, byMaps, ourSteps, valid-tables, compared-only, Domain, Equal}
 use Rattle.rules.proofs.Ending.{Finished}
 use Rattle.rules.proofs.Lookups.{tables-finish}
+use Rattle.equality.proofs.Clauses.{map-clauses, call-clauses}
 use Rattle.equality.proofs.CrateSlots.{viaRow, same-function}
 use Rattle.equality.proofs.CrateLink.{Agree, link-agrees}
 use Rattle.equality.proofs.MapsAgree.{maps-done, maps-refused}
@@ -67,16 +68,16 @@ module _ (tables : Tables) (hidden : Hidden) (room : Room) (root : ℕ) (domain 
 
   for-maps : MapDomain tables hidden
   for-maps = record {
-    limits = domain .valid .limits;
-    whole = domain .valid .whole;
-    rising = domain .valid .rising;
-    once = domain .valid .once;
-    clauses = domain .maps;
+    limits = domain .holds valid-tables tt .limits;
+    whole = domain .holds valid-tables tt .whole;
+    rising = domain .holds valid-tables tt .rising;
+    once = domain .holds valid-tables tt .once;
+    clauses = map-clauses domain;
   }
 
   after : (instructions : List Insn) (count : ℕ) → mapStep tables ≡ mapped instructions count → LinkDomain (withInstructions tables instructions) hidden room root
   unfolding mapStep
-  after instructions count e = go (firstRefusal tables (tables .instructions) (allTasks tables)) refl e (domain .calls instructions count e)
+  after instructions count e = go (firstRefusal tables (tables .instructions) (allTasks tables)) refl e (call-clauses domain instructions count e)
     where
       go : (o : Option Refusal) → firstRefusal tables (tables .instructions) (allTasks tables) ≡ o
           → unlessRefused tables o (mapped (rewriteAll tables (tables .instructions) (allTasks tables) (tables .instructions)) (applied tables (tables .instructions) (allTasks tables)))
@@ -85,10 +86,10 @@ module _ (tables : Tables) (hidden : Hidden) (room : Room) (root : ℕ) (domain 
       go none f e c =
           let same : rewriteAll tables (tables .instructions) (allTasks tables) (tables .instructions) ≡ instructions = cc in
           record {
-            limits = limits-after tables instructions (domain .valid .limits)
-                (subst (λ x. (k : ℕ) → Plain (slotAt x k)) same (all-plain tables (domain .valid .fds) (tables .instructions) (allTasks tables) (tables .instructions) (domain .valid .limits .plain)));
+            limits = limits-after tables instructions (domain .holds valid-tables tt .limits)
+                (subst (λ x. (k : ℕ) → Plain (slotAt x k)) same (all-plain tables (domain .holds valid-tables tt .fds) (tables .instructions) (allTasks tables) (tables .instructions) (domain .holds valid-tables tt .limits .plain)));
             known = known-after-maps tables (tables .instructions) f;
-            room-limits = domain .valid .room-limits;
+            room-limits = domain .holds valid-tables tt .room-limits;
             clauses = c;
           }
 
@@ -101,7 +102,7 @@ module _ (tables : Tables) (hidden : Hidden) (room : Room) (root : ℕ) (domain 
     unfolding crateOf relocate-calls
     crate-links =
         ap crateRun (maps-done tables hidden for-maps instructions count e)
-        ∙ ap (or-unknown-program (crateOf now hidden)) (root-found now hidden root (after instructions count e .limits) (domain .valid .root-row) (domain .valid .keys))
+        ∙ ap (or-unknown-program (crateOf now hidden)) (root-found now hidden root (after instructions count e .limits) (domain .holds valid-tables tt .root-row) (domain .holds valid-tables tt .keys))
 
     answer : (o : Outcome) → Agree now hidden room root o (Crate.link (crateOf now hidden) (crateFunction now hidden root)) → Finished o
         → ((why : Refusal) → byLink o ≡ refusal why → Compared (why .number)) → Equal tables root (byLink o) (Crate.link (crateOf now hidden) (crateFunction now hidden root))
@@ -124,7 +125,7 @@ module _ (tables : Tables) (hidden : Hidden) (room : Room) (root : ℕ) (domain 
 
   pub demand-2 : Equal tables root (ourSteps tables room root) (both-steps (crateOf tables hidden) (hidden .maps) (rowOf tables root .home) (rowOf tables root .address))
   unfolding ourSteps both-steps
-  demand-2 = go (mapStep tables) refl (domain .compared)
+  demand-2 = go (mapStep tables) refl (domain .holds compared-only tt)
     where
       go : (o : MapOutcome) → mapStep tables ≡ o → ((why : Refusal) → byMaps tables room root o ≡ refusal why → Compared (why .number))
           → Equal tables root (byMaps tables room root o) (crateRun (object-relocate-maps (crateOf tables hidden) (hidden .maps)))

@@ -25,8 +25,9 @@ use Rattle.rules.proofs.Writing.{decoded-at, decoded-length}
 use Rattle.rules.proofs.Refusing.{map-checked}
 use Rattle.equality.specs.Crate.{Result, Linker}
 use Rattle.equality.specs.Domain.{Hidden, crateOf, Compared, withInstructions}
-use Rattle.equality.specs.Demand2.{both-steps, refusal, byLink, byMaps, ourSteps, Equal}
+use Rattle.equality.specs.Demand2.{both-steps, refusal, byLink, byMaps, ourSteps, compared-only, Domain, Equal}
 use Rattle.equality.specs.Entries.{withBytes, stopped, went, byReply, ourEntries, EntryDomain, EqualBytes}
+use Rattle.equality.proofs.Clauses.{with-valid}
 use Rattle.equality.proofs.MapsAfter.{all-kept}
 use Rattle.equality.proofs.MapsCommute.{all-length}
 use Rattle.equality.proofs.Offered.{offered-valid, offered-fds}
@@ -53,7 +54,7 @@ decoded-fits order bytes are k = go (decLt k (length bytes / 8))
         (record { opcode = omega arith; destination = omega arith; source = omega arith; offset = omega arith; immediate = omega arith })
 
 module _ (order : Order) (o : Offered) (hidden : Hidden) (lent : Outputs) (root : ℕ) (domain : EntryDomain order o hidden lent root) where
-  open EntryDomain domain using (map-passes, link-passes, bytes, map-bytes, maps, compared, calls)
+  open EntryDomain domain using (map-passes, link-passes, bytes, map-bytes, clauses)
 
   abbrev tables : Tables
   tables = tablesOf order o
@@ -120,10 +121,11 @@ module _ (order : Order) (o : Offered) (hidden : Hidden) (lent : Outputs) (root 
   unfolding ourEntries mapEntry ourSteps
   demand-2-entries =
       subst (λ r. EqualBytes order lent (byReply order o root lent (unlessMapRefused order o r)) crate) (sym map-passes)
-      (go (mapStep tables) refl compared
-      (demand-2 tables hidden (roomIn lent) root
-      (record { valid = offered-valid order o lent root map-passes link-passes bytes map-bytes; maps = maps; compared = compared; calls = calls })))
+      (go (mapStep tables) refl (all .holds compared-only tt) (demand-2 tables hidden (roomIn lent) root all))
     where
+      all : Domain tables hidden (roomIn lent) root
+      all = with-valid (offered-valid order o lent root map-passes link-passes bytes map-bytes) clauses
+
       crate : Result Linker
       crate = both-steps (crateOf tables hidden) (hidden .maps) (rowOf tables root .home) (rowOf tables root .address)
 

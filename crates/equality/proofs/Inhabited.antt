@@ -16,6 +16,7 @@ use Rattle.rules.specs.Records.{Room, imageFunctions, imageLines, admits, linkS
 use Rattle.equality.specs.Met.{visitMet, appendMet, linkMet}
 use Rattle.equality.specs.Domain.{Hidden, Plain, Limits, reached, done, MapClauses, CallDomain, withInstructions}
 use Rattle.equality.specs.Demand2.{ourSteps, Valid, Domain}
+use Rattle.equality.proofs.Clauses.{domain-of}
 
 abbrev calls-itself : Insn
 calls-itself = record { opcode = 0x85; destination = 0; source = 1; offset = pos 0; immediate = negsuc 0 }
@@ -63,11 +64,11 @@ whole (suc (suc row)) = omega arith
 maps : MapClauses tables hidden
 unfolding firstRefusal judge
 maps = record {
-  order = λ home. done;
-  map-order = done;
+  orders = record { order = λ home. done; map-order = done };
   alone = λ m x a. absurd (List·Memᴰ·not-nil a);
   single = λ why e. let z : _≡_ {A = ℕ} 0 1 = cc in absurd (omega arith);
-  five = λ why e. let z : _≡_ {A = ℕ} 0 1 = cc in absurd (omega arith);
+  not-text = λ why e. let z : _≡_ {A = ℕ} 0 1 = cc in absurd (omega arith);
+  no-map = λ why e. let z : _≡_ {A = ℕ} 0 1 = cc in absurd (omega arith);
 }
 
 -- the only callee is the root, met twice
@@ -113,9 +114,7 @@ valid = record {
 
 pub inhabited : Domain tables hidden room 0
 unfolding isCall isBlank isWideLoad decide meaning displacement calling referring visit append link objectOf judge firstRefusal applied rewriteAll mapStep imageFunctions imageLines admits roomFor strayLine linkStep ourSteps
-inhabited = record {
-  maps = maps;
-  valid = valid;
-  compared = λ why e. let z : _≡_ {A = ℕ} 0 1 = cc in absurd (omega arith);
-  calls = λ instructions count e. let same : tables .instructions ≡ instructions = cc in subst (λ x. CallDomain (withInstructions tables x) hidden room 0) same calls;
-}
+inhabited =
+    domain-of valid maps
+    (λ why e. let z : _≡_ {A = ℕ} 0 1 = cc in absurd (omega arith))
+    (λ instructions count e. let same : tables .instructions ≡ instructions = cc in subst (λ x. CallDomain (withInstructions tables x) hidden room 0) same calls)

@@ -1,5 +1,9 @@
-pub mod Numbers
 pub mod Perms
+pub mod Inputs
+pub mod Excluded
+pub mod Pinned
+pub mod Clauses
+pub mod Numbers
 pub mod CrateSlots
 pub mod CrateRecords
 pub mod CrateLink
@@ -7,6 +11,8 @@ pub mod MapsCrate
 pub mod MapsCommute
 pub mod MapsAgree
 pub mod MapsAfter
+pub mod Checks
+pub mod Needed
 pub mod Demand2
 pub mod Valid
 pub mod Offered

@@ -158,7 +158,7 @@ module _ (tables : Tables) (hidden : Hidden) (domain : MapDomain tables hidden) 
   ours-distinct row = rising-distinct (rowOf tables row .home) (tables .relocations) (domain .rising)
 
   theirs-distinct : (row : ℕ) → Distinct (theirs row)
-  theirs-distinct row = perm-distinct (domain .clauses .order (rowOf tables row .home)) (ours-distinct row)
+  theirs-distinct row = perm-distinct (domain .clauses .orders .order (rowOf tables row .home)) (ours-distinct row)
 
   abbrev functions-run : ℕ → ℕ → Result (List Crate.Function)
   functions-run from count = relocate-functions crate (by-section tables hidden domain) (by-symbol tables hidden domain) (run (crateFunction tables hidden) from count)
@@ -218,10 +218,10 @@ module _ (tables : Tables) (hidden : Hidden) (domain : MapDomain tables hidden) 
 
   -- our tasks are theirs, in another order
   to-ours : (row : ℕ) (q : Relocation) → List·Memᴰ q (theirs row) → List·Memᴰ q (ours row)
-  to-ours row q m = perm-member q (domain .clauses .order (rowOf tables row .home)) m
+  to-ours row q m = perm-member q (domain .clauses .orders .order (rowOf tables row .home)) m
 
   to-theirs : (row : ℕ) (q : Relocation) → List·Memᴰ q (ours row) → List·Memᴰ q (theirs row)
-  to-theirs row q m = perm-member q (perm-sym (domain .clauses .order (rowOf tables row .home))) m
+  to-theirs row q m = perm-member q (perm-sym (domain .clauses .orders .order (rowOf tables row .home))) m
 
   row-task : (row : ℕ) (t : Task) → List·Memᴰ t (map (task row) (theirs row)) → List·Memᴰ t (tasksOf tables row)
   row-task row t m =
@@ -257,8 +257,11 @@ module _ (tables : Tables) (hidden : Hidden) (domain : MapDomain tables hidden) 
                 → (n ≡ why .number) × (n ≡ 5 → Five tables hidden domain u)
             only-one u n e m =
                 let same = domain .clauses .single why refusal-is (task from u) (task from (k .of)) n (why .number) m among here here e verdict in
-                let number : n ≡ why .number = cc (ap (judge tables orig) same) in
-                (number, λ five s home. domain .clauses .five why refusal-is (task from u) s home m here (e ∙ ap refused five))
+                let number : n ≡ why .number = cc (ap (judge tables orig) same) in (
+                  number,
+                  λ five s home sy at.
+                      (domain .clauses .not-text why refusal-is (task from u) s home m here (e ∙ ap refused five) sy at, domain .clauses .no-map why refusal-is (task from u) s home m here (e ∙ ap refused five) sy at),
+                )
 
     functions-stop : (from count : ℕ) (now : List Insn) → Ready from count now
         → ((t : Task) → List·Memᴰ t (tasks tables (tasksOf tables) from count) → List·Memᴰ t (allTasks tables))
@@ -311,7 +314,7 @@ module _ (tables : Tables) (hidden : Hidden) (domain : MapDomain tables hidden) 
       go none f e =
           let same : rewriteAll tables orig (allTasks tables) orig ≡ image = cc in
           functions-pass 0 n orig start (λ t m. none-refused tables orig (allTasks tables) f t (all-tasks 0 n t m))
-          ∙ ap (λ final. ok (result final 0 n)) (sym (all-order tables orig ours theirs (λ row. domain .clauses .order (rowOf tables row .home)) ours-distinct 0 n orig) ∙ same)
+          ∙ ap (λ final. ok (result final 0 n)) (sym (all-order tables orig ours theirs (λ row. domain .clauses .orders .order (rowOf tables row .home)) ours-distinct 0 n orig) ∙ same)
 
   -- what it refuses, the crate refuses for the same cause
   pub maps-refused : (why : Refusal) → mapStep tables ≡ refuses why → Compared (why .number) → object-relocate-maps crate (hidden .maps) ≡ err (causeOf (why .number))

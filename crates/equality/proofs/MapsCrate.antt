@@ -230,10 +230,10 @@ module _ (tables : Tables) (hidden : Hidden) (domain : MapDomain tables hidden) 
 
   -- our maps and theirs
   theirs-map : (x : MapRow) → List·Memᴰ x (tables .maps) → List·Memᴰ x (hidden .maps)
-  theirs-map x k = perm-member x (perm-sym (domain .clauses .map-order)) k
+  theirs-map x k = perm-member x (perm-sym (domain .clauses .orders .map-order)) k
 
   our-map : (x : MapRow) → List·Memᴰ x (hidden .maps) → List·Memᴰ x (tables .maps)
-  our-map x k = perm-member x (domain .clauses .map-order) k
+  our-map x k = perm-member x (domain .clauses .orders .map-order) k
 
   not-symbol : (symbol : ℕ) → first (λ x. isSymbol symbol (x .symbol)) (tables .maps) ≡ none → by-symbol symbol ≡ none
   not-symbol symbol e =
@@ -250,7 +250,7 @@ module _ (tables : Tables) (hidden : Hidden) (domain : MapDomain tables hidden) 
       go (some x) f e =
           let k = first-found (λ x. isSymbol symbol (x .symbol)) (tables .maps) m (f ∙ e) in
           ap (λ o. find-map (crateOf tables hidden) by-section by-symbol o home)
-          (by-symbol-found symbol m (hidden .maps) new (perm-once (domain .clauses .map-order) (domain .once)) (theirs-map m (k .0)) (k .1))
+          (by-symbol-found symbol m (hidden .maps) new (perm-once (domain .clauses .orders .map-order) (domain .once)) (theirs-map m (k .0)) (k .1))
       go none f e =
           let k = first-found (λ m. eqb (m .home) home && hasNone (m .symbol)) (tables .maps) m e in
           ap (λ o. find-map (crateOf tables hidden) by-section by-symbol o home) (not-symbol symbol f)

@@ -2,8 +2,10 @@
 -- Assumes nothing.
 use mathlib.Core.Path.{_≡_, refl, sym, _∙_, ap}
 use mathlib.Core.Logic.{_≢_, _⊎_, inl, inr}
+use mathlib.Core.Bool.{Bool, true, false, cond}
 use mathlib.Core.List.{List, [], _∷_, List·Memᴰ, List·Memᴰ·head, List·Memᴰ·tail, List·Memᴰ·cases-cons}
 use Rattle.rules.specs.Tables.{Relocation}
+use Rattle.rules.specs.Maps.{only}
 use Rattle.equality.specs.Domain.{Perm, done, keep, swap, both}
 use Rattle.rules.proofs.MapsApart.{Distinct}
 
@@ -25,6 +27,10 @@ perm-member x (swap a b zs) m = go (List·Memᴰ·cases-cons m)
     go (inr m) = inner (List·Memᴰ·cases-cons m)
 perm-member x (both p q) m = perm-member x p (perm-member x q m)
 
+pub perm-refl : {A : Type 0} (xs : List A) → Perm xs xs
+perm-refl [] = done
+perm-refl (x ∷ xs) = keep x (perm-refl xs)
+
 pub perm-sym : {A : Type 0} {xs ys : List A} → Perm xs ys → Perm ys xs
 perm-sym done = done
 perm-sym (keep x p) = keep x (perm-sym p)
@@ -40,3 +46,21 @@ perm-distinct (swap a b zs) d = (λ q m. go q (List·Memᴰ·cases-cons m), (λ 
     go q (inl e) = λ same. d .0 b (List·Memᴰ·head refl) (ap (λ r. r .offset) (sym e) ∙ sym same)
     go q (inr m) = d .1 .0 q m
 perm-distinct (both p q) d = perm-distinct q (perm-distinct p d)
+
+-- and what is taken out of both by a test
+pub only-perm : {A : Type 0} (test : A → Bool) {xs ys : List A} → Perm xs ys → Perm (only test xs) (only test ys)
+only-perm test done = done
+only-perm test (keep x p) = go (test x) (only-perm test p)
+  where
+    go : (b : Bool) {xs ys : List _} → Perm xs ys → Perm (cond b (x ∷ xs) xs) (cond b (x ∷ ys) ys)
+    go true p = keep x p
+    go false p = p
+only-perm test (swap x y zs) = go (test x) (test y)
+  where
+    go : (a b : Bool) → Perm (cond a (x ∷ cond b (y ∷ only test zs) (only test zs)) (cond b (y ∷ only test zs) (only test zs)))
+        (cond b (y ∷ cond a (x ∷ only test zs) (only test zs)) (cond a (x ∷ only test zs) (only test zs)))
+    go true true = swap x y (only test zs)
+    go true false = perm-refl (x ∷ only test zs)
+    go false true = perm-refl (y ∷ only test zs)
+    go false false = perm-refl (only test zs)
+only-perm test (both p q) = both (only-perm test p) (only-perm test q)

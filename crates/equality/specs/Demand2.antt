@@ -1,6 +1,7 @@
 -- Demand 2: in document 01's domain, instructions and records equal the crate's. "Maps first, then calls; the root is the only program".
 -- Assumes nothing.
 use mathlib.Core.Path.{_≡_}
+use mathlib.Core.Logic.{_≢_}
 use mathlib.Core.List.{List, List·Memᴰ}
 use Prim.Native.Nat.{ℕ, _+_, _≤_, _<_}
 use lib.ListN.{length}
@@ -13,7 +14,7 @@ use Rattle.rules.specs.Maps.{MapOutcome, mapped, mapStep}
 use Rattle.rules.specs.Records.{Room, imageFunctions, imageLines, linkStep}
 use Rattle.equality.specs.Crate as Crate
 use Rattle.equality.specs.Crate.{Result, ok, err, bind, Linker, object-relocate-maps, relocate-calls}
-use Rattle.equality.specs.Domain.{Hidden, Compared, causeOf, Limits, RoomLimits, Once, MapClauses, CallDomain, withInstructions}
+use Rattle.equality.specs.Domain.{Hidden, Compared, causeOf, Limits, RoomLimits, Once, Orders, Alone, OneRefusable, FiveNotText, FiveNoMap, CallsBelow, ReferencesBelow, CalleesDiffer, FunctionCount, LineCount, withInstructions}
 
 -- the crate's: `relocate_maps`, then `relocate_calls` of what it leaves
 abbrev pub with-functions : Crate.Object → List Crate.Function → Crate.Object
@@ -63,15 +64,42 @@ pub record Valid (tables : Tables) (room : Room) (root : ℕ) : Type 0 where
       → rowOf tables a .address ≡ rowOf tables b .address → a ≡ b
   pub root-row : root < length (tables .functions)
 
-pub record Domain (tables : Tables) (hidden : Hidden) (room : Room) (root : ℕ) : Type 0 where
-  -- "Valid tables in our limits"
-  pub valid : Valid tables room root
-  -- the clauses that speak of maps
-  pub maps : MapClauses tables hidden
-  -- "no refusal but 3, 4, 5, 10"
-  pub compared : (why : Refusal) → ourSteps tables room root ≡ refusal why → Compared (why .number)
-  -- "Maps first, then calls": of the tables that the map step leaves
-  pub calls : (instructions : List Insn) (count : ℕ) → mapStep tables ≡ mapped instructions count → CallDomain (withInstructions tables instructions) hidden room root
+-- "no refusal but 3, 4, 5, 10"
+abbrev pub ComparedOnly : Tables → Room → ℕ → Type 0
+ComparedOnly tables room root = (why : Refusal) → ourSteps tables room root ≡ refusal why → Compared (why .number)
+
+-- "Maps first, then calls": of the tables that the map step leaves
+abbrev pub AfterMaps : Tables → (Tables → Type 0) → Type 0
+AfterMaps tables Said = (instructions : List Insn) (count : ℕ) → mapStep tables ≡ mapped instructions count → Said (withInstructions tables instructions)
+
+-- the domain's clauses, by name
+pub data Clause : Type 0 where
+  valid-tables compared-only one-refusable five-not-text five-no-map map-alone call-below reference-below callees-differ function-count line-count : Clause
+
+abbrev pub Holds : Clause → Tables → Hidden → Room → ℕ → Type 0
+Holds valid-tables tables hidden room root = Valid tables room root
+Holds compared-only tables hidden room root = ComparedOnly tables room root
+Holds one-refusable tables hidden room root = OneRefusable tables
+Holds five-not-text tables hidden room root = FiveNotText tables
+Holds five-no-map tables hidden room root = FiveNoMap tables
+Holds map-alone tables hidden room root = Alone tables
+Holds call-below tables hidden room root = AfterMaps tables CallsBelow
+Holds reference-below tables hidden room root = AfterMaps tables ReferencesBelow
+Holds callees-differ tables hidden room root = AfterMaps tables (λ after. CalleesDiffer after room root)
+Holds function-count tables hidden room root = AfterMaps tables (λ after. FunctionCount after hidden root)
+Holds line-count tables hidden room root = AfterMaps tables (λ after. LineCount after hidden root)
+
+-- those that are asked hold, whatever the crate's order is
+pub record Within (Asked : Clause → Type 0) (tables : Tables) (hidden : Hidden) (room : Room) (root : ℕ) : Type 0 where
+  pub orders : Orders tables hidden
+  pub holds : (c : Clause) → Asked c → Holds c tables hidden room root
+
+-- document 01's domain; and without one clause
+abbrev pub Domain : Tables → Hidden → Room → ℕ → Type 0
+Domain = Within (λ c. Unit {0})
+
+abbrev pub Except : Clause → Tables → Hidden → Room → ℕ → Type 0
+Except x = Within (λ c. c ≢ x)
 
 -- instructions, function records, line records and both counts are the crate's
 pub record SameImage (tables : Tables) (root : ℕ) (final : State) (o : Result Linker) : Type 0 where

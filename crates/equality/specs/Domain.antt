@@ -86,18 +86,36 @@ pub record RoomLimits (room : Room) : Type 0 where
   pub room-functions : room .functions ≤ mostImageFunctions
   pub room-lines : room .lines ≤ mostImageLines
 
+-- "no call or size-32 code reference with immediate 2,147,483,647"
+abbrev pub CallsBelow : Tables → Type 0
+CallsBelow tables =
+    (row slot : ℕ) → slot < rowOf tables row .slots → isCall (insnOf tables row slot) ≡ true → insnOf tables row slot .immediate ≢ topImmediate
+
+abbrev pub ReferencesBelow : Tables → Type 0
+ReferencesBelow tables =
+    (row slot : ℕ) (r : Relocation) (s : Symbol) (home : ℕ) → slot < rowOf tables row .slots
+    → relocationAt tables (rowOf tables row) slot ≡ some r → r .size ≡ 32
+    → symbolOf tables r ≡ some s → s .home ≡ some home → isCode tables home ≡ true → insnOf tables row slot .immediate ≢ topImmediate
+
+-- "reached callees differ in address"
+abbrev pub CalleesDiffer : Tables → Room → ℕ → Type 0
+CalleesDiffer tables room root =
+    (a b : ℕ) → List·Memᴰ a (reached tables room root) → List·Memᴰ b (reached tables room root) → rowOf tables a .address ≡ rowOf tables b .address → a ≡ b
+
+-- "`num_info` is the record count": the root's; no other is read
+abbrev pub FunctionCount : Tables → Hidden → ℕ → Type 0
+FunctionCount tables hidden root = hidden .func-nums root ≡ length (functionRecordsOf tables root)
+
+abbrev pub LineCount : Tables → Hidden → ℕ → Type 0
+LineCount tables hidden root = hidden .line-nums root ≡ length (linesOf tables root)
+
 -- the clauses that speak of calls, of the tables that the map step leaves
 pub record CallDomain (tables : Tables) (hidden : Hidden) (room : Room) (root : ℕ) : Type 0 where
-  -- "no call or size-32 code reference with immediate 2,147,483,647"
-  pub calls : (row slot : ℕ) → slot < rowOf tables row .slots → isCall (insnOf tables row slot) ≡ true → insnOf tables row slot .immediate ≢ topImmediate
-  pub references : (row slot : ℕ) (r : Relocation) (s : Symbol) (home : ℕ) → slot < rowOf tables row .slots
-      → relocationAt tables (rowOf tables row) slot ≡ some r → r .size ≡ 32
-      → symbolOf tables r ≡ some s → s .home ≡ some home → isCode tables home ≡ true → insnOf tables row slot .immediate ≢ topImmediate
-  -- "reached callees differ in address"
-  pub differ : (a b : ℕ) → List·Memᴰ a (reached tables room root) → List·Memᴰ b (reached tables room root) → rowOf tables a .address ≡ rowOf tables b .address → a ≡ b
-  -- "`num_info` is the record count": the root's; no other is read
-  pub func-num : hidden .func-nums root ≡ length (functionRecordsOf tables root)
-  pub line-num : hidden .line-nums root ≡ length (linesOf tables root)
+  pub calls : CallsBelow tables
+  pub references : ReferencesBelow tables
+  pub differ : CalleesDiffer tables room root
+  pub func-num : FunctionCount tables hidden root
+  pub line-num : LineCount tables hidden root
 
 -- what the link needs
 pub record LinkDomain (tables : Tables) (hidden : Hidden) (room : Room) (root : ℕ) : Type 0 where
@@ -121,23 +139,45 @@ abbrev pub Once : List MapRow → Type 0
 Once [] = Unit {0}
 Once (m ∷ ms) = ((x : MapRow) → List·Memᴰ x ms → (s : ℕ) → m .symbol ≡ some s → x .symbol ≢ some s) × Once ms
 
--- the clauses that speak of maps
-pub record MapClauses (tables : Tables) (hidden : Hidden) : Type 0 where
-  -- "`HashMap` order": whatever it is
+-- "`HashMap` order": whatever it is
+pub record Orders (tables : Tables) (hidden : Hidden) : Type 0 where
   pub order : (home : ℕ) → Perm (only (λ r. eqb (r .home) home) (tables .relocations)) (hidden .values home)
   pub map-order : Perm (tables .maps) (hidden .maps)
-  -- "a section with a map without a symbol has no other map". Of "no relocation finds its map by section where only maps with symbols stand"
-  -- nothing is needed: ours is 5 there, and `five` asks that no map has the section
-  pub alone : (m x : MapRow) → List·Memᴰ m (tables .maps) → List·Memᴰ x (tables .maps) → m .symbol ≡ none → x .home ≡ m .home → x ≡ m
-  -- "the function refused by the map step has one refusable relocation"
-  pub single : (why : Refusal) → firstRefusal tables (tables .instructions) (allTasks tables) ≡ some why
-      → (t u : Task) (m n : ℕ) → List·Memᴰ t (allTasks tables) → List·Memᴰ u (allTasks tables) → t .row ≡ why .row → u .row ≡ why .row
-      → judge tables (tables .instructions) t ≡ refused m → judge tables (tables .instructions) u ≡ refused n → t ≡ u
-  -- "5 only where the kind is not Text and no map has the section"
-  pub five : (why : Refusal) → firstRefusal tables (tables .instructions) (allTasks tables) ≡ some why
-      → (t : Task) (s : Symbol) (home : ℕ) → List·Memᴰ t (allTasks tables) → t .row ≡ why .row → judge tables (tables .instructions) t ≡ refused 5
-      → symbolOf tables (t .relocation) ≡ some s → s .home ≡ some home
-      → (s .kind ≢ text) × ((m : MapRow) → List·Memᴰ m (tables .maps) → m .home ≢ home)
+
+-- "a section with a map without a symbol has no other map". Of "no relocation finds its map by section where only maps with symbols stand"
+-- nothing is needed: ours is 5 there, and `FiveNoMap` asks that no map has the section
+abbrev pub Alone : Tables → Type 0
+Alone tables = (m x : MapRow) → List·Memᴰ m (tables .maps) → List·Memᴰ x (tables .maps) → m .symbol ≡ none → x .home ≡ m .home → x ≡ m
+
+-- "the function refused by the map step has one refusable relocation"
+abbrev pub OneRefusable : Tables → Type 0
+OneRefusable tables =
+    (why : Refusal) → firstRefusal tables (tables .instructions) (allTasks tables) ≡ some why
+    → (t u : Task) (m n : ℕ) → List·Memᴰ t (allTasks tables) → List·Memᴰ u (allTasks tables) → t .row ≡ why .row → u .row ≡ why .row
+    → judge tables (tables .instructions) t ≡ refused m → judge tables (tables .instructions) u ≡ refused n → t ≡ u
+
+-- each 5 of that function: its symbol and that symbol's section
+abbrev pub Fives : Tables → (Symbol → ℕ → Type 0) → Type 0
+Fives tables Said =
+    (why : Refusal) → firstRefusal tables (tables .instructions) (allTasks tables) ≡ some why
+    → (t : Task) (s : Symbol) (home : ℕ) → List·Memᴰ t (allTasks tables) → t .row ≡ why .row → judge tables (tables .instructions) t ≡ refused 5
+    → symbolOf tables (t .relocation) ≡ some s → s .home ≡ some home → Said s home
+
+-- "5 only where the kind is not Text"
+abbrev pub FiveNotText : Tables → Type 0
+FiveNotText tables = Fives tables (λ s home. s .kind ≢ text)
+
+-- "and no map has the section"
+abbrev pub FiveNoMap : Tables → Type 0
+FiveNoMap tables = Fives tables (λ s home. (m : MapRow) → List·Memᴰ m (tables .maps) → m .home ≢ home)
+
+-- the clauses that speak of maps
+pub record MapClauses (tables : Tables) (hidden : Hidden) : Type 0 where
+  pub orders : Orders tables hidden
+  pub alone : Alone tables
+  pub single : OneRefusable tables
+  pub not-text : FiveNotText tables
+  pub no-map : FiveNoMap tables
 
 -- what the map step needs
 pub record MapDomain (tables : Tables) (hidden : Hidden) : Type 0 where

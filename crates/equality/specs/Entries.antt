@@ -7,16 +7,14 @@ use mathlib.Core.Option.{none}
 use mathlib.Core.List.{List}
 use Prim.Native.Nat.{ℕ, _<_}
 use lib.Dec.{eqb}
-use Rattle.rules.specs.Object.{Insn}
 use Rattle.rules.specs.Link.{Refusal}
 use Rattle.rules.specs.Bytes.{Order, byteAt}
 use Rattle.rules.specs.Answers.{Reply}
-use Rattle.rules.specs.Maps.{mapped, mapStep}
 use Rattle.rules.specs.Rows.{Offered, tablesOf, mapStepRefusal, linkRefusal}
 use Rattle.rules.specs.Entries.{MapResult, Outputs, roomIn, LinkResult, refusalReply, refusedLink, acceptedLink, mapEntry, linkEntry}
 use Rattle.equality.specs.Crate.{Result, ok, err, Linker}
-use Rattle.equality.specs.Domain.{Hidden, Compared, causeOf, MapClauses, CallDomain, withInstructions}
-use Rattle.equality.specs.Demand2.{refusal, ourSteps}
+use Rattle.equality.specs.Domain.{Hidden, Compared, causeOf}
+use Rattle.equality.specs.Demand2.{valid-tables, Except}
 
 -- table 6 as the map step leaves it
 abbrev pub withBytes : Offered → List ℕ → Offered
@@ -50,13 +48,8 @@ pub record EntryDomain (order : Order) (o : Offered) (hidden : Hidden) (lent : O
   pub link-passes : linkRefusal o root ≡ none
   pub bytes : (k : ℕ) → byteAt (o .instructions) k < 256
   pub map-bytes : (k : ℕ) → byteAt (o .maps) k < 256
-  -- the clauses that speak of maps
-  pub maps : MapClauses (tablesOf order o) hidden
-  -- "no refusal but 3, 4, 5, 10"
-  pub compared : (why : Refusal) → ourSteps (tablesOf order o) (roomIn lent) root ≡ refusal why → Compared (why .number)
-  -- "Maps first, then calls": the clauses that speak of calls, of the tables that the map step leaves
-  pub calls : (instructions : List Insn) (count : ℕ) → mapStep (tablesOf order o) ≡ mapped instructions count
-      → CallDomain (withInstructions (tablesOf order o) instructions) hidden (roomIn lent) root
+  -- the clauses but that one
+  pub clauses : Except valid-tables (tablesOf order o) hidden (roomIn lent) root
 
 -- accepted: the three outputs are the crate's instructions, function records and line records
 pub record SameBytes (order : Order) (lent : Outputs) (e : Entered) (o : Result Linker) : Type 0 where
