@@ -112,6 +112,8 @@ module _ (order : Order) (o : Offered) (hidden : Hidden) (lent : Outputs) (root 
       linker = same .linker;
       is-ok = same .is-ok;
       written = λ i. went (acceptedLink order lent (sym (same .instructions) i) (sym (same .functions) i) (sym (same .lines) i));
+      func-num = same .func-num ∙ sym (ap length (same .functions));
+      line-num = same .line-num ∙ sym (ap length (same .lines));
     })
     by-outcome c (refuses why) compared same = inr (record { why = why; compared = compared why refl; refused = inr refl; is-err = same })
     by-outcome c unfinished compared same = absurd same

@@ -9,7 +9,7 @@ use lib.IntN.{pos, negsuc}
 use Rattle.rules.specs.Object.{Insn, isCall, isBlank, isWideLoad, decide, meaning, displacement, calling, referring}
 use Rattle.rules.specs.Link.{refusal, visit, append, link}
 use Rattle.rules.specs.Bytes.{little, bytes4, u16At, u32At, u64At, signed, unsigned, decode, encode, decoded, encoded}
-use Rattle.rules.specs.Tables.{other, text, LineRecord, objectOf}
+use Rattle.rules.specs.Tables.{other, text, LineRecord, Tables, objectOf}
 use Rattle.rules.specs.Maps.{judge, firstRefusal, applied, rewriteAll, mapStep}
 use Rattle.rules.specs.Records.{imageFunctions, imageLines, admits, roomFor, strayLine, linkStep}
 use Rattle.rules.specs.Rows.{codeSection, symbolIndex, symbolSection, symbolAddress, symbolKind, functionSection, functionSlots, functionAddress, functionOffset, functionFuncInfo, functionLineInfo, relocationSection, relocationSymbol, relocationOffset, relocationSize, mapSection, mapSymbol, mapFd, mapHasData, isGood, total, tooMany, firstBroken, brokenIn, broken, Offered, tablesOf, mapStepRefusal, linkRefusal}
@@ -50,6 +50,29 @@ pub called-twice : given (crate (input (object (1 ∷ 2 ∷ []) (symbol 7 2 16 t
     ≡ calls (pos 1) ∷ calls (pos 0) ∷ exits ∷ []
 unfolding signed u32 u64 i32 add-u64 mul-u64 add-u32 sub-u32 add-i32 sub-i32 insn-is-call relocate-map relocate-maps relocate-functions object-relocate-maps slot-of relocate-from relocate link-new Crate.link relocate-calls crateOf both-steps
 called-twice = refl
+
+-- a root with a record of each kind that calls itself: `num_info`, 1 before, is counted anew
+abbrev counts : Result Linker → List ℕ
+counts (ok linker) = linker .func-num-info ∷ linker .line-num-info ∷ []
+counts (err e) = []
+counts panics = []
+counts too-deep = []
+
+abbrev recorded : Tables
+recorded = record {
+  code = 1 ∷ [];
+  symbols = [];
+  functions = record { home = 1; slots = 1; address = 0; offset = 0; functions = 1; lines = 1 } ∷ [];
+  relocations = [];
+  maps = [];
+  instructions = calls (negsuc 0) ∷ [];
+  functionRecords = record { slot = 0; kind = 3 } ∷ [];
+  lineRecords = line 0 ∷ [];
+}
+
+pub counted-anew : counts (both-steps (crateOf recorded (record { values = λ home. []; maps = []; func-nums = λ row. 1; line-nums = λ row. 1 })) [] 1 0) ≡ 2 ∷ 2 ∷ []
+unfolding signed u32 u64 i32 add-u64 mul-u64 add-u32 sub-u32 add-i32 sub-i32 insn-is-call relocate-map relocate-maps relocate-functions object-relocate-maps slot-of relocate-from relocate link-new Crate.link relocate-calls crateOf both-steps
+counted-anew = refl
 
 -- the entries, from bytes
 abbrev word : ℕ → List ℕ

@@ -7,6 +7,7 @@ use mathlib.Core.Option.{none}
 use mathlib.Core.List.{List}
 use Prim.Native.Nat.{ℕ, _<_}
 use lib.Dec.{eqb}
+use lib.ListN.{length}
 use Rattle.rules.specs.Link.{Refusal}
 use Rattle.rules.specs.Bytes.{Order, byteAt}
 use Rattle.rules.specs.Answers.{Reply}
@@ -56,6 +57,9 @@ pub record SameBytes (order : Order) (lent : Outputs) (e : Entered) (o : Result 
   pub linker : Linker
   pub is-ok : o ≡ ok linker
   pub written : e ≡ went (acceptedLink order lent (linker .instructions) (linker .func-info) (linker .line-info))
+  -- the crate's two `num_info` are the counts that the places say
+  pub func-num : linker .func-num-info ≡ length (linker .func-info)
+  pub line-num : linker .line-num-info ≡ length (linker .line-info)
 
 -- refused, by the one step or the other: the crate's error is of the same cause
 pub record SameCause (order : Order) (lent : Outputs) (e : Entered) (o : Result Linker) : Type 0 where

@@ -8,8 +8,8 @@ use mathlib.Core.List.{List, [], _∷_, _++_, List·Memᴰ}
 use Prim.Native.Nat.{ℕ, zero, suc, _+_, _-_, _*_, _/_, _≤_, _<_, min}
 use native.Mathlib.Omega.{arith}
 use native.Mathlib.Decide.{decLt}
-use lib.IntN.{ℤ, pos}
-use lib.Dec.{leb}
+use lib.IntN.{ℤ, pos, _+ℤ_}
+use lib.Dec.{eqb, leb}
 use borrow.Author.Tests.{leb-true}
 use lib.ListN.{length, getD, take, replicate, List·getD-eq-default}
 use lib.Seq.{take-at}
@@ -19,13 +19,15 @@ use Rattle.rules.specs.Link.{State, Refusal, refusal, Outcome, linked, r
 use Rattle.rules.specs.Walk.{Walk, standing, SourcePlace, place, sourceWalk, imageWalk}
 use Rattle.rules.specs.Together.{Together, both-stand, SamePlace, KeepsPath}
 use Rattle.rules.specs.Bytes.{Order, Fits, half16, half32, decode, decoded, encoded, padded}
-use Rattle.rules.specs.Tables.{Tables, FunctionRecord, LineRecord, rowOf, functionRecordsOf, linesOf, base, objectOf}
+use Rattle.rules.specs.Tables.{SymbolKind, other, text, section, Tables, FunctionRecord, LineRecord, orMissing, slotsOn, rowOf, functionRecordsOf, linesOf, base, insnOf, rowAt, functionAt, bySymbol, bySymbolRow, byRelocation, objectOf}
 use Rattle.rules.specs.Records.{Room, imageFunctions, imageLines, roomFor, strayLine, thenStray, admits, rootAdmits, linkStep}
 use Rattle.rules.specs.Answers.{Reply, reply}
 use Rattle.rules.specs.Rows.{Offered, tablesOf, linkRefusal, orDone, mostImageSlots}
 use Rattle.rules.specs.Entries.{funcInfoBytes, lineInfoBytes, Outputs, roomIn, LinkResult, acceptedLink, byOutcome, unlessLinkRefused, linkEntry}
-use Rattle.rules.specs.Demand3.{count, usedImage, usedFuncInfo, usedLineInfo, Calls, PathKept}
+use Rattle.rules.specs.Demand3.{count, usedImage, usedFuncInfo, usedLineInfo, Calls, refersToCode, FunctionReference, Refers, PathKept}
 use Rattle.rules.proofs.Path.{keeps-path, stands-in}
+use Rattle.rules.proofs.Slots.{meaning-fits, call-opcode, wide-opcode}
+use Rattle.rules.proofs.Slots as Slots
 use Rattle.rules.proofs.Linking.{link-faithful}
 use Rattle.rules.proofs.Tiles.{tile-fits, tile-covers}
 use Rattle.rules.proofs.Limits.{within-room}
@@ -104,6 +106,72 @@ module _ (object : Object) (root : ℕ) (image : List Insn) (pieces : List Piece
   walk-names answers steps row slot back rest e c =
       let p = in-piece answers steps row slot back rest e in
       names-one row slot (p .start) (p .among) (stands-in object root image pieces faithful answers steps row slot back rest e) c
+
+-- ---- what refers to code names a function, or is refused
+found-or-missing : (o : Option ℕ) → orMissing o ≡ nothing → ⊥
+found-or-missing none e = let z : _≡_ {A = ℕ} 0 1 = cc in omega arith
+found-or-missing (some row) e = let z : _≡_ {A = ℕ} 0 1 = cc in omega arith
+
+code-names : (tables : Tables) (kind : SymbolKind) (home : Option ℕ) (address size : ℕ) (immediate : ℤ) → refersToCode tables kind home ≡ true
+    → bySymbol tables kind home address size immediate ≡ nothing → ⊥
+code-names tables text none address size immediate c e = let z : _≡_ {A = ℕ} 0 1 = cc in omega arith
+code-names tables text (some home) address size immediate c e = found-or-missing (rowAt tables home (pos address)) e
+code-names tables section none address size immediate c e = let z : _≡_ {A = ℕ} 0 1 = cc in omega arith
+code-names tables section (some home) address size immediate c e = sized (eqb size 32) (eqb size 64) (sym (ap (λ b. cond b (targets (eqb size 32) (eqb size 64)) nothing) c) ∙ e)
+  where
+    targets : Bool → Bool → Named
+    targets a b =
+        cond a (functionAt tables home (pos address +ℤ slotsOn immediate))
+        (cond b (functionAt tables home (pos address +ℤ immediate)) (unclear 8))
+
+    sized : (a b : Bool) → targets a b ≡ nothing → ⊥
+    sized true b e = found-or-missing (rowAt tables home (pos address +ℤ slotsOn immediate)) e
+    sized false true e = found-or-missing (rowAt tables home (pos address +ℤ immediate)) e
+    sized false false e = let z : _≡_ {A = ℕ} 0 1 = cc in omega arith
+code-names tables other none address size immediate c e = let z : _≡_ {A = ℕ} 0 1 = cc in omega arith
+code-names tables other (some home) address size immediate c e = unknown (sym (ap (λ b. cond b (unclear 8) nothing) c) ∙ e)
+  where
+    unknown : unclear 8 ≡ nothing → ⊥
+    unknown e = let z : _≡_ {A = ℕ} 0 1 = cc in omega arith
+
+reference-names : (tables : Tables) (row slot : ℕ) → FunctionReference tables row slot → objectOf tables .named row slot ≡ nothing → ⊥
+unfolding objectOf
+reference-names tables row slot r e =
+    code-names tables (r .symbol .kind) (r .symbol .home) (r .symbol .address) (r .relocation .size) (insnOf tables row slot .immediate) (r .code)
+    (sym (ap (λ o. byRelocation tables o (rowOf tables row) slot (insnOf tables row slot)) (r .relocates)
+    ∙ ap (λ o. bySymbolRow tables o (r .relocation .size) (insnOf tables row slot .immediate)) (r .known)) ∙ e)
+
+-- a wide load that names something is not copied
+not-copied : (c : Bool) (n : Named) → (n ≡ nothing → ⊥) → decide c true n ≡ copied → ⊥
+unfolding decide
+not-copied c nothing named e = named refl
+not-copied true (function row) named e = let z : _≡_ {A = ℕ} 0 1 = cc in omega arith
+not-copied false (function row) named e = let z : _≡_ {A = ℕ} 0 1 = cc in omega arith
+not-copied true (missing number) named e = let z : _≡_ {A = ℕ} 0 1 = cc in omega arith
+not-copied false (missing number) named e = let z : _≡_ {A = ℕ} 0 1 = cc in omega arith
+not-copied true (unclear number) named e = let z : _≡_ {A = ℕ} 0 1 = cc in omega arith
+not-copied false (unclear number) named e = let z : _≡_ {A = ℕ} 0 1 = cc in omega arith
+
+module _ (tables : Tables) (root : ℕ) (image : List Insn) (pieces : List Piece) (faithful : Faithful (objectOf tables) root image pieces) where
+  refers-one : (row slot start : ℕ) → List·Memᴰ (piece row start) pieces → slot < objectOf tables .slots row → FunctionReference tables row slot → Refers (objectOf tables) row slot
+  unfolding Linked meaning
+  refers-one row slot start m l r = go (meaning (objectOf tables) row slot) refl (faithful .linked (piece row start) m slot l)
+    where
+      go : (x : Meaning) → meaning (objectOf tables) row slot ≡ x → LinkOf pieces (objectOf tables .insn row slot) (start + slot) (slotAt image (start + slot)) x → Refers (objectOf tables) row slot
+      go copied e k =
+          absurd (not-copied (isCall (objectOf tables .insn row slot)) (objectOf tables .named row slot) (reference-names tables row slot r)
+          (ap (λ w. decide (isCall (objectOf tables .insn row slot)) w (objectOf tables .named row slot)) (sym (r .wide)) ∙ e))
+      go (call callee) e k =
+          let is : isCall (objectOf tables .insn row slot) ≡ true = subst (Slots.Fits (isCall (objectOf tables .insn row slot)) (isWideLoad (objectOf tables) row slot)) e (meaning-fits (objectOf tables) row slot) in
+          absurd (omega (arith, call-opcode (objectOf tables .insn row slot) is, wide-opcode (objectOf tables) row slot (r .wide)))
+      go (reference callee) e k = record { callee = callee; is = e }
+      go (refused number) e k = absurd k
+
+  walk-refers : (answers : List Bool) (steps row slot : ℕ) (back : List SourcePlace) (rest : List Bool) → sourceWalk (objectOf tables) root answers steps ≡ standing (place row (pos slot)) back rest
+      → FunctionReference tables row slot → Refers (objectOf tables) row slot
+  walk-refers answers steps row slot back rest e r =
+      let p = in-piece (objectOf tables) root image pieces faithful answers steps row slot back rest e in
+      refers-one row slot (p .start) (p .among) (stands-in (objectOf tables) root image pieces faithful answers steps row slot back rest e) r
 
 -- ---- every slot of the image fits its eight bytes
 blank-plain : Plain blank
@@ -225,6 +293,8 @@ module _ (order : Order) (o : Offered) (root : ℕ) (lent : Outputs) (are : Byte
           path = keeps-path (objectOf (tablesOf order o)) root (decoded order (usedImage (acceptedLink order lent (final .image) (imageFunctions (tablesOf order o) root (final .placed)) (imageLines (tablesOf order o) root (final .placed))))) (piece root 0 ∷ final .placed) f;
           named = λ answers steps row slot back rest.
               walk-names (objectOf (tablesOf order o)) root (decoded order (usedImage (acceptedLink order lent (final .image) (imageFunctions (tablesOf order o) root (final .placed)) (imageLines (tablesOf order o) root (final .placed))))) (piece root 0 ∷ final .placed) f answers steps row slot back rest;
+          referred = λ answers steps row slot back rest.
+              walk-refers (tablesOf order o) root (decoded order (usedImage (acceptedLink order lent (final .image) (imageFunctions (tablesOf order o) root (final .placed)) (imageLines (tablesOf order o) root (final .placed))))) (piece root 0 ∷ final .placed) f answers steps row slot back rest;
         }
 
   -- an answer of 0, on any bytes, root and lent sizes

@@ -16,7 +16,7 @@ use Rattle.rules.specs.declared.Kind.the-variants.{Plain, WideLoad, Jump
 use Rattle.rules.specs.Object.{Insn, isCall, Object, isWideLoad, Meaning, copied, call, reference, refused, meaning, calling, referring}
 use Rattle.rules.specs.Faithful.{Piece, piece, slotAt, Tile, Placed, LinkOf, Linked, Faithful}
 use Rattle.rules.specs.Walk.{Move, byKind, leads, kind, within, SourcePlace, place, calleeOf, inSource, inImage, sourceWalk, imageWalk, standing, Walk}
-use Rattle.rules.specs.Together.{Together, SamePlace, RefersTo, KeepsPath, both-stand}
+use Rattle.rules.specs.Together.{Together, SamePlace, RefersTo, ReferencePassed, KeepsPath, both-stand}
 use Rattle.rules.proofs.Simulation.{SameMove, same-goes, same-chooses, same-enters, same-returns, same-stuck, SameSight, outside, inside, walk-together, walk-inside}
 use Rattle.rules.proofs.Tiles.{tile-fits, tile-one}
 use Rattle.rules.proofs.Slots.{Fits, meaning-fits, wide-opcode, leads-call, leads-wide, displaced}
@@ -126,6 +126,16 @@ module _ (object : Object) (root : ℕ) (image : List Insn) (pieces : List Piece
         };
       })
 
+  passed : (row slot callee : ℕ) (answers : List Bool) (steps : ℕ) (back : List SourcePlace) (rest : List Bool) → slot < object .slots row → meaning object row slot ≡ reference callee
+      → (w : Walk ℤ) → imageWalk image answers steps ≡ w → Together (SamePlace pieces) (standing (place row (pos slot)) back rest) w
+      → ReferencePassed image pieces callee answers steps rest
+  passed row slot callee answers steps back rest l named (standing there frames rest′) e (both-stand same framed) = record {
+    here = same .start + slot;
+    back = frames;
+    stands = e ∙ ap (λ x. standing x frames rest) (same .holds);
+    refers = refers row slot callee (same .start + slot) l (record { start = same .start; among = same .among; holds = refl }) named;
+  }
+
   one-place : (row row′ slot slot′ : ℕ) (there : ℤ) → slot < object .slots row → slot′ < object .slots row′
       → SamePlace pieces (place row (pos slot)) there → SamePlace pieces (place row′ (pos slot′)) there → (row ≡ row′) × (slot ≡ slot′)
   one-place row row′ slot slot′ there l l′ same same′ =
@@ -137,7 +147,7 @@ module _ (object : Object) (root : ℕ) (image : List Insn) (pieces : List Piece
   pub keeps-path : KeepsPath object root image pieces
   keeps-path = record {
     together = together;
-    references = λ answers steps row slot callee here back back′ rest e e′ named.
-        refers row slot callee here (stands-in answers steps row slot back rest e) (stood (rw (e, e′) at (together answers steps))) named;
+    references = λ answers steps row slot callee back rest e named.
+        passed row slot callee answers steps back rest (stands-in answers steps row slot back rest e) named (imageWalk image answers steps) refl (rw e at (together answers steps));
     one-place = one-place;
   }

@@ -42,7 +42,7 @@ pub meaning-fits : (object : Object) (row slot : ℕ) → Fits (isCall (object .
 unfolding meaning
 meaning-fits object row slot = fits (isCall (object .insn row slot)) (isWideLoad object row slot) (object .named row slot)
 
-call-opcode : (i : Insn) → isCall i ≡ true → i .opcode ≡ 0x85
+pub call-opcode : (i : Insn) → isCall i ≡ true → i .opcode ≡ 0x85
 unfolding isCall
 call-opcode i e = eqb-true (i .opcode) 0x85 (and-left _ _ (and-left _ _ (and-left _ _ e)))
 

@@ -2,18 +2,20 @@
 -- Assumes nothing.
 use mathlib.Core.Path.{_≡_}
 use mathlib.Core.Logic.{_≢_}
-use mathlib.Core.Bool.{Bool, true}
+use mathlib.Core.Bool.{Bool, true, false}
+use mathlib.Core.Option.{Option, none, some}
 use mathlib.Core.List.{List, [], _∷_}
 use Prim.Native.Nat.{ℕ, _+_, _*_, _<_}
 use lib.IntN.{pos}
 use lib.ListN.{length, getD, take}
 use Rattle.rules.specs.declared.Table.the-variants.{Instructions, FuncInfo, LineInfo}
-use Rattle.rules.specs.Object.{Object, isCall, Meaning, call, meaning}
+use Rattle.rules.specs.Object.{Object, isCall, isWideLoad, Meaning, call, reference, meaning}
 use Rattle.rules.specs.Faithful.{Piece, piece, Faithful}
 use Rattle.rules.specs.Walk.{standing, SourcePlace, place, sourceWalk}
 use Rattle.rules.specs.Together.{KeepsPath}
 use Rattle.rules.specs.Bytes.{Order, decoded}
-use Rattle.rules.specs.Tables.{objectOf}
+use Rattle.rules.specs.Tables.{SymbolKind, other, text, section, Symbol, Relocation, Tables, rowOf, isCode, relocationAt, objectOf}
+use Rattle.rules.specs.Maps.{symbolOf}
 use Rattle.rules.specs.Records.{imageFunctions, imageLines}
 use Rattle.rules.specs.Rows.{rowSize, Offered, tablesOf}
 use Rattle.rules.specs.Entries.{LinkResult, funcInfoBytes, lineInfoBytes}
@@ -36,6 +38,28 @@ pub record Calls (object : Object) (row slot : ℕ) : Type 0 where
   pub callee : ℕ
   pub is : meaning object row slot ≡ call callee
 
+-- "It refers to code if the kind is Text or its section is in table 1"
+abbrev pub refersToCode : Tables → SymbolKind → Option ℕ → Bool
+refersToCode tables text home = true
+refersToCode tables section none = false
+refersToCode tables section (some home) = isCode tables home
+refersToCode tables other none = false
+refersToCode tables other (some home) = isCode tables home
+
+-- "A function reference is a wide load whose relocation refers to code"
+pub record FunctionReference (tables : Tables) (row slot : ℕ) : Type 0 where
+  pub wide : isWideLoad (objectOf tables) row slot ≡ true
+  pub relocation : Relocation
+  pub relocates : relocationAt tables (rowOf tables row) slot ≡ some relocation
+  pub symbol : Symbol
+  pub known : symbolOf tables relocation ≡ some symbol
+  pub code : refersToCode tables (symbol .kind) (symbol .home) ≡ true
+
+-- the function that a slot refers to
+pub record Refers (object : Object) (row slot : ℕ) : Type 0 where
+  pub callee : ℕ
+  pub is : meaning object row slot ≡ reference callee
+
 -- the pieces after the root, and what they make of the three outputs
 pub record PathKept (order : Order) (o : Offered) (root : ℕ) (r : LinkResult) : Type 0 where
   pub others : List Piece
@@ -53,3 +77,7 @@ pub record PathKept (order : Order) (o : Offered) (root : ℕ) (r : LinkResult) 
   pub named : (answers : List Bool) (steps row slot : ℕ) (back : List SourcePlace) (rest : List Bool)
       → sourceWalk (objectOf (tablesOf order o)) root answers steps ≡ standing (place row (pos slot)) back rest
       → isCall (objectOf (tablesOf order o) .insn row slot) ≡ true → Calls (objectOf (tablesOf order o)) row slot
+  -- nor to a function reference that names nothing: `path .references` is said of each
+  pub referred : (answers : List Bool) (steps row slot : ℕ) (back : List SourcePlace) (rest : List Bool)
+      → sourceWalk (objectOf (tablesOf order o)) root answers steps ≡ standing (place row (pos slot)) back rest
+      → FunctionReference (tablesOf order o) row slot → Refers (objectOf (tablesOf order o)) row slot

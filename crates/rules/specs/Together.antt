@@ -31,15 +31,21 @@ pub record RefersTo (image : List Insn) (pieces : List Piece) (row : ℕ) (here 
   pub register : slotAt image here .source ≡ 4
   pub target : Placed pieces row (λ start. pos here +ℤ (pos 1 +ℤ slotAt image here .immediate) ≡ pos start)
 
+-- the image walk stands at a reference to the function `row`, with the same answers left
+pub record ReferencePassed (image : List Insn) (pieces : List Piece) (row : ℕ) (answers : List Bool) (steps : ℕ) (rest : List Bool) : Type 0 where
+  pub here : ℕ
+  pub back : List ℤ
+  pub stands : imageWalk image answers steps ≡ standing (pos here) back rest
+  pub refers : RefersTo image pieces row here
+
 -- linking keeps the path
 pub record KeepsPath (object : Object) (root : ℕ) (image : List Insn) (pieces : List Piece) : Type 0 where
   pub together : (answers : List Bool) (steps : ℕ)
       → Together (SamePlace pieces) (sourceWalk object root answers steps) (imageWalk image answers steps)
-  -- a reference that both walks stand at
-  pub references : (answers : List Bool) (steps row slot callee here : ℕ) (back : List SourcePlace) (back′ : List ℤ) (rest : List Bool)
+  -- a reference that the source walk stands at: the image walk stands at it too
+  pub references : (answers : List Bool) (steps row slot callee : ℕ) (back : List SourcePlace) (rest : List Bool)
       → sourceWalk object root answers steps ≡ standing (place row (pos slot)) back rest
-      → imageWalk image answers steps ≡ standing (pos here) back′ rest
-      → meaning object row slot ≡ reference callee → RefersTo image pieces callee here
+      → meaning object row slot ≡ reference callee → ReferencePassed image pieces callee answers steps rest
   -- a slot of the image is the same place as one slot of one function only
   pub one-place : (row row′ slot slot′ : ℕ) (there : ℤ) → slot < object .slots row → slot′ < object .slots row′
       → SamePlace pieces (place row (pos slot)) there → SamePlace pieces (place row′ (pos slot′)) there → (row ≡ row′) × (slot ≡ slot′)
