@@ -22,7 +22,7 @@ use Rattle.rules.specs.Records.{Room, imageFunctions, imageLines, admits, rootA
 use Rattle.equality.specs.Crate as Crate
 use Rattle.equality.specs.Crate.{Result, err, bind, Linker, object-relocate-maps, get-function, or-unknown-program, relocate-calls}
 use Rattle.equality.specs.Domain.{Hidden, crateFunction, crateOf, Limits, Plain, Compared, causeOf, MapDomain, CallDomain, LinkDomain, withInstructions}
-use Rattle.equality.specs.Demand2.{with-functions, both-steps, refusal, byLink, byMaps, ourSteps, valid-tables, compared-only, Domain, Equal}
+use Rattle.equality.specs.Demand2.{with-functions, both-steps, refusal, byLink, byMaps, ourSteps, valid-tables, compared-only, Domain, Equal, EqualWithin, EqualMaps}
 use Rattle.rules.proofs.Ending.{Finished}
 use Rattle.rules.proofs.Lookups.{tables-finish}
 use Rattle.equality.proofs.Clauses.{map-clauses, call-clauses}
@@ -134,3 +134,18 @@ module _ (tables : Tables) (hidden : Hidden) (room : Room) (root : ℕ) (domain 
           (answer instructions count e (linkStep (withInstructions tables instructions) room root)
           (link-agrees (withInstructions tables instructions) hidden room root (after instructions count e)) (link-finishes instructions count e) c)
       go (Maps.refuses why) e c = ap crateRun (maps-refused tables hidden for-maps why e (c why refl))
+
+  refused-first : (why : Refusal) → mapStep tables ≡ Maps.refuses why → ourSteps tables room root ≡ refusal why
+  unfolding ourSteps
+  refused-first why e = ap (byMaps tables room root) e
+
+  pub demand-2-maps : EqualMaps tables hidden (mapStep tables) (object-relocate-maps (crateOf tables hidden) (hidden .maps))
+  demand-2-maps = go (mapStep tables) refl
+    where
+      go : (o : MapOutcome) → mapStep tables ≡ o → EqualMaps tables hidden o (object-relocate-maps (crateOf tables hidden) (hidden .maps))
+      go (mapped instructions count) e = maps-done tables hidden for-maps instructions count e
+      go (Maps.refuses why) e = maps-refused tables hidden for-maps why e (domain .holds compared-only tt why (refused-first why e))
+
+-- all clauses are enough (and none is too many: proofs/Needed.antt)
+pub equal-within : EqualWithin (λ c. Unit {0})
+equal-within = demand-2

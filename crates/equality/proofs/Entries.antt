@@ -23,15 +23,16 @@ use Rattle.rules.specs.Entries.{Outputs, roomIn, byMapOutcome, unlessMapRefused
 use Rattle.rules.proofs.Rounds.{Plain, decoded-encoded, encoded-length, all-plain, decode-plain}
 use Rattle.rules.proofs.Writing.{decoded-at, decoded-length}
 use Rattle.rules.proofs.Refusing.{map-checked}
-use Rattle.equality.specs.Crate.{Result, Linker}
-use Rattle.equality.specs.Domain.{Hidden, crateOf, Compared, withInstructions}
-use Rattle.equality.specs.Demand2.{both-steps, refusal, byLink, byMaps, ourSteps, compared-only, Domain, Equal}
-use Rattle.equality.specs.Entries.{withBytes, stopped, went, byReply, ourEntries, EntryDomain, EqualBytes}
+use Rattle.equality.specs.Crate as Crate
+use Rattle.equality.specs.Crate.{Result, ok, Linker, object-relocate-maps}
+use Rattle.equality.specs.Domain.{Hidden, crateFunctions, crateOf, Compared, withInstructions}
+use Rattle.equality.specs.Demand2.{both-steps, refusal, byLink, byMaps, ourSteps, compared-only, Domain, Equal, EqualMaps}
+use Rattle.equality.specs.Entries.{withBytes, stopped, went, byReply, ourEntries, EntryDomain, EqualBytes, EqualMapBytes}
 use Rattle.equality.proofs.Clauses.{with-valid}
 use Rattle.equality.proofs.MapsAfter.{all-kept}
 use Rattle.equality.proofs.MapsCommute.{all-length}
 use Rattle.equality.proofs.Offered.{offered-valid, offered-fds}
-use Rattle.equality.proofs.Demand2.{demand-2}
+use Rattle.equality.proofs.Demand2.{demand-2, demand-2-maps}
 
 -- the link's refusals 1, 2 and 13 look at table 6's length alone
 same-refusal : (o : Offered) (root : ℕ) (bytes : List ℕ) → length bytes ≡ length (o .instructions) → linkRefusal (withBytes o bytes) root ≡ linkRefusal o root
@@ -118,6 +119,9 @@ module _ (order : Order) (o : Offered) (hidden : Hidden) (lent : Outputs) (root 
     by-outcome c (refuses why) compared same = inr (record { why = why; compared = compared why refl; refused = inr refl; is-err = same })
     by-outcome c unfinished compared same = absurd same
 
+  all : Domain tables hidden (roomIn lent) root
+  all = with-valid (offered-valid order o lent root map-passes link-passes bytes map-bytes) clauses
+
   pub demand-2-entries : EqualBytes order lent (ourEntries order o root lent)
       (both-steps (crateOf tables hidden) (hidden .maps) (rowOf tables root .home) (rowOf tables root .address))
   unfolding ourEntries mapEntry ourSteps
@@ -125,9 +129,6 @@ module _ (order : Order) (o : Offered) (hidden : Hidden) (lent : Outputs) (root 
       subst (λ r. EqualBytes order lent (byReply order o root lent (unlessMapRefused order o r)) crate) (sym map-passes)
       (go (mapStep tables) refl (all .holds compared-only tt) (demand-2 tables hidden (roomIn lent) root all))
     where
-      all : Domain tables hidden (roomIn lent) root
-      all = with-valid (offered-valid order o lent root map-passes link-passes bytes map-bytes) clauses
-
       crate : Result Linker
       crate = both-steps (crateOf tables hidden) (hidden .maps) (rowOf tables root .home) (rowOf tables root .address)
 
@@ -144,3 +145,17 @@ module _ (order : Order) (o : Offered) (hidden : Hidden) (lent : Outputs) (root 
             refused = inl (ap (λ b. cond b (went (linkEntry order (withBytes o (o .instructions)) root lent)) (stopped (refusalReply why))) (ne-eqb (why .number) 0 (not-done (why .number) (compared why refl))));
             is-err = same;
           })
+
+  pub demand-2-map-entry : EqualMapBytes order o hidden (mapEntry order o) (object-relocate-maps (crateOf tables hidden) (hidden .maps))
+  unfolding mapEntry ourSteps
+  demand-2-map-entry =
+      subst (λ r. EqualMapBytes order o hidden (unlessMapRefused order o r) crate) (sym map-passes)
+      (go (mapStep tables) refl (all .holds compared-only tt) (demand-2-maps tables hidden (roomIn lent) root all))
+    where
+      crate : Result (List Crate.Function)
+      crate = object-relocate-maps (crateOf tables hidden) (hidden .maps)
+
+      go : (m : MapOutcome) → mapStep tables ≡ m → ((why : Refusal) → byMaps tables (roomIn lent) root m ≡ refusal why → Compared (why .number))
+          → EqualMaps tables hidden m crate → EqualMapBytes order o hidden (byMapOutcome order (o .instructions) m) crate
+      go (mapped instructions count) e compared same = inl (refl, same ∙ ap (λ t. ok (crateFunctions t hidden)) (sym (tables-after instructions count e)))
+      go (Maps.refuses why) e compared same = inr (record { why = why; compared = compared why refl; untouched = refl; is-err = same })

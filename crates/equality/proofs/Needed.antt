@@ -16,12 +16,12 @@ use Rattle.rules.specs.Link.{visit, append, link}
 use Rattle.rules.specs.Bytes.{signed}
 use Rattle.rules.specs.Tables.{other, Symbol, MapRow, Tables, first, rowOf, objectOf}
 use Rattle.rules.specs.Maps.{Task, task, isSymbol, hasNone, symbolOf, allTasks, judge, firstRefusal, applied, rewriteAll, mapStep}
-use Rattle.rules.specs.Records.{Room, imageFunctions, imageLines, admits, linkStep, roomFor, strayLine}
+use Rattle.rules.specs.Records.{imageFunctions, imageLines, admits, linkStep, roomFor, strayLine}
 use Rattle.equality.specs.Met.{visitMet, appendMet, linkMet}
 use Rattle.equality.specs.Crate as Crate
 use Rattle.equality.specs.Crate.{u32, u64, i32, add-u64, mul-u64, add-u32, sub-u32, add-i32, sub-i32, insn-is-call, Result, ok, err, panics, too-deep, Error, Linker, relocate-map, relocate-maps, relocate-functions, object-relocate-maps, slot-of, relocate-from, relocate, link-new, relocate-calls}
-use Rattle.equality.specs.Domain.{Hidden, crateOf, causeOf, reached}
-use Rattle.equality.specs.Demand2.{both-steps, with-functions, Answer, image, refusal, endless, byLink, ourSteps, Clause, valid-tables, compared-only, one-refusable, five-not-text, five-no-map, map-alone, call-below, reference-below, callees-differ, function-count, line-count, Domain, Except, Equal}
+use Rattle.equality.specs.Domain.{crateOf, causeOf, reached}
+use Rattle.equality.specs.Demand2.{both-steps, with-functions, Answer, image, refusal, endless, byLink, ourSteps, Clause, valid-tables, compared-only, one-refusable, five-not-text, five-no-map, map-alone, call-below, reference-below, callees-differ, function-count, line-count, Domain, Except, Equal, EqualWithin}
 use Rattle.equality.proofs.Inputs.{Input, hiddenOf, fullRoom, symbol, relocation, map-row, unknown-symbol, two-programs, found-by-section, inputsFor}
 use Rattle.equality.proofs.Checks.{allb, all-member, testBut, except-by, domain-by}
 
@@ -162,9 +162,7 @@ needed x i among = record {
 
 -- demand 2 without the clause x
 abbrev pub Without : Clause → Type 0
-Without x =
-    (tables : Tables) (hidden : Hidden) (room : Room) (root : ℕ) → Except x tables hidden room root
-    → Equal tables root (ourSteps tables room root) (both-steps (crateOf tables hidden) (hidden .maps) (rowOf tables root .home) (rowOf tables root .address))
+Without x = EqualWithin (λ c. c ≢ x)
 
 first-needed : (x : Clause) (i : Input) → Needed x i → Without x → ⊥
 first-needed x i n theorem = n .unequal (theorem (i .tables) (hiddenOf i) (i .room) (i .root) (n .within))

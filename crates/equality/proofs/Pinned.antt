@@ -3,7 +3,9 @@
 -- Assumes nothing.
 use mathlib.Core.Path.{_≡_, refl}
 use mathlib.Core.Logic.{inr}
-use mathlib.Core.List.{List, [], _∷_, _++_}
+use mathlib.Core.Bool.{false}
+use mathlib.Core.Option.{some}
+use mathlib.Core.List.{List, [], _∷_, _++_, map}
 use Prim.Native.Nat.{ℕ}
 use lib.IntN.{pos, negsuc}
 use Rattle.rules.specs.Object.{Insn, isCall, isBlank, isWideLoad, decide, meaning, displacement, calling, referring}
@@ -19,7 +21,7 @@ use Rattle.equality.specs.Crate.{u32, u64, i32, add-u64, mul-u64, add-u3
 use Rattle.equality.specs.Domain.{Hidden, crateOf}
 use Rattle.equality.specs.Demand2.{both-steps}
 use Rattle.equality.specs.Entries.{went, ourEntries, SameCause}
-use Rattle.equality.proofs.Inputs.{Input, hiddenOf, input, symbol, function, relocation, insn, exits, calls, load, next, object}
+use Rattle.equality.proofs.Inputs.{Input, hiddenOf, input, symbol, function, relocation, map-row, insn, exits, calls, load, next, object}
 
 abbrev line : ℕ → LineRecord
 line slot = record { slot = slot; file = 1; line = 2; column = 3 }
@@ -36,6 +38,23 @@ crate i = both-steps (crateOf (i .tables) (hiddenOf i)) (i .tables .maps) 1 0
 pub no-map : crate (input (object (1 ∷ []) (symbol 9 5 0 other ∷ []) (function 1 2 0 ∷ []) (relocation 1 9 0 64 ∷ []) [] (load (pos 0) ∷ next ∷ [])) 0) ≡ err section-not-found
 unfolding signed u32 u64 i32 add-u64 mul-u64 add-u32 sub-u32 add-i32 sub-i32 insn-is-call relocate-map relocate-maps relocate-functions object-relocate-maps slot-of relocate-from relocate link-new Crate.link relocate-calls crateOf both-steps
 no-map = refl
+
+-- the map step relocates each function, reached or not: two loads from one map
+abbrev slots : Result (List Crate.Function) → List (List Insn)
+slots (ok functions) = map (λ f. f .instructions) functions
+slots (err e) = []
+slots panics = []
+slots too-deep = []
+
+abbrev two-loads : Tables
+two-loads =
+    object (1 ∷ 2 ∷ []) (symbol 9 5 0 other ∷ []) (function 1 2 0 ∷ function 2 2 0 ∷ []) (relocation 1 9 0 64 ∷ relocation 2 9 0 64 ∷ []) (map-row 5 (some 9) 7 false ∷ [])
+    (load (pos 0) ∷ next ∷ load (pos 0) ∷ next ∷ [])
+
+pub each-mapped : slots (object-relocate-maps (crateOf two-loads (hiddenOf (input two-loads 0))) (two-loads .maps))
+    ≡ (insn 0x18 1 1 (pos 7) ∷ next ∷ []) ∷ (insn 0x18 1 1 (pos 7) ∷ next ∷ []) ∷ []
+unfolding add-u64 insn-is-call relocate-map relocate-maps relocate-functions object-relocate-maps crateOf
+each-mapped = refl
 
 abbrev given : Result Linker → List Insn
 given (ok linker) = linker .instructions

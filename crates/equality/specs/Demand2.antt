@@ -14,7 +14,7 @@ use Rattle.rules.specs.Maps.{MapOutcome, mapped, mapStep}
 use Rattle.rules.specs.Records.{Room, imageFunctions, imageLines, linkStep}
 use Rattle.equality.specs.Crate as Crate
 use Rattle.equality.specs.Crate.{Result, ok, err, bind, Linker, object-relocate-maps, relocate-calls}
-use Rattle.equality.specs.Domain.{Hidden, Compared, causeOf, Limits, RoomLimits, Once, Orders, Alone, OneRefusable, FiveNotText, FiveNoMap, CallsBelow, ReferencesBelow, CalleesDiffer, FunctionCount, LineCount, withInstructions}
+use Rattle.equality.specs.Domain.{Hidden, crateFunctions, crateOf, Compared, causeOf, Limits, RoomLimits, Once, Orders, Alone, OneRefusable, FiveNotText, FiveNoMap, CallsBelow, ReferencesBelow, CalleesDiffer, FunctionCount, LineCount, withInstructions}
 
 -- the crate's: `relocate_maps`, then `relocate_calls` of what it leaves
 abbrev pub with-functions : Crate.Object → List Crate.Function → Crate.Object
@@ -116,3 +116,14 @@ abbrev pub Equal : Tables → ℕ → Answer → Result Linker → Type 0
 Equal tables root (image final) o = SameImage tables root final o
 Equal tables root (refusal why) o = o ≡ err (causeOf (why .number))
 Equal tables root endless o = ⊥
+
+-- demand 2, over the clauses that are asked
+abbrev pub EqualWithin : (Clause → Type 0) → Type 0
+EqualWithin Asked =
+    (tables : Tables) (hidden : Hidden) (room : Room) (root : ℕ) → Within Asked tables hidden room root
+    → Equal tables root (ourSteps tables room root) (both-steps (crateOf tables hidden) (hidden .maps) (rowOf tables root .home) (rowOf tables root .address))
+
+-- the map step alone: every function's instructions are the crate's, reached by the root or not
+abbrev pub EqualMaps : Tables → Hidden → MapOutcome → Result (List Crate.Function) → Type 0
+EqualMaps tables hidden (mapped instructions count) o = o ≡ ok (crateFunctions (withInstructions tables instructions) hidden)
+EqualMaps tables hidden (Maps.refuses why) o = o ≡ err (causeOf (why .number))

@@ -12,9 +12,10 @@ use Rattle.rules.specs.Link.{Refusal}
 use Rattle.rules.specs.Bytes.{Order, byteAt}
 use Rattle.rules.specs.Answers.{Reply}
 use Rattle.rules.specs.Rows.{Offered, tablesOf, mapStepRefusal, linkRefusal}
-use Rattle.rules.specs.Entries.{MapResult, Outputs, roomIn, LinkResult, refusalReply, refusedLink, acceptedLink, mapEntry, linkEntry}
+use Rattle.rules.specs.Entries.{MapResult, mapResult, Outputs, roomIn, LinkResult, refusalReply, refusedLink, acceptedLink, mapEntry, linkEntry}
+use Rattle.equality.specs.Crate as Crate
 use Rattle.equality.specs.Crate.{Result, ok, err, Linker}
-use Rattle.equality.specs.Domain.{Hidden, Compared, causeOf}
+use Rattle.equality.specs.Domain.{Hidden, crateFunctions, Compared, causeOf}
 use Rattle.equality.specs.Demand2.{valid-tables, Except}
 
 -- table 6 as the map step leaves it
@@ -70,3 +71,15 @@ pub record SameCause (order : Order) (lent : Outputs) (e : Entered) (o : Result 
 
 abbrev pub EqualBytes : Order → Outputs → Entered → Result Linker → Type 0
 EqualBytes order lent e o = SameBytes order lent e o ⊎ SameCause order lent e o
+
+-- the map step alone. Refused: table 6 is as it was
+pub record SameMapCause (o : Offered) (r : MapResult) (c : Result (List Crate.Function)) : Type 0 where
+  pub why : Refusal
+  pub compared : Compared (why .number)
+  pub untouched : r ≡ mapResult (refusalReply why) (o .instructions)
+  pub is-err : c ≡ err (causeOf (why .number))
+
+-- done: table 6 as it is left, read again, is what the crate leaves in its functions
+abbrev pub EqualMapBytes : Order → Offered → Hidden → MapResult → Result (List Crate.Function) → Type 0
+EqualMapBytes order o hidden r c =
+    ((r .reply .number ≡ 0) × (c ≡ ok (crateFunctions (tablesOf order (withBytes o (r .instructions))) hidden))) ⊎ SameMapCause o r c
