@@ -13,6 +13,7 @@ pub mod MapsAgree
 pub mod MapsAfter
 pub mod Checks
 pub mod Needed
+pub mod Answered
 pub mod Demand2
 pub mod Valid
 pub mod Offered

@@ -26,17 +26,17 @@ use Rattle.equality.proofs.Inputs.{Input, hiddenOf, fullRoom, symbol, r
 use Rattle.equality.proofs.Checks.{allb, all-member, testBut, except-by, domain-by}
 
 -- what an answer shows: instructions and both counts; an error; or neither
-data Seen : Type 0 where
+pub data Seen : Type 0 where
   gives : List Insn → ℕ → ℕ → Seen
   errs : Error → Seen
   panicked never : Seen
 
-abbrev seenOurs : Tables → ℕ → Answer → Seen
+abbrev pub seenOurs : Tables → ℕ → Answer → Seen
 seenOurs tables root (image state) = gives (state .image) (length (imageFunctions tables root (state .placed))) (length (imageLines tables root (state .placed)))
 seenOurs tables root (refusal why) = errs (causeOf (why .number))
 seenOurs tables root endless = never
 
-abbrev seenCrate : Result Linker → Seen
+abbrev pub seenCrate : Result Linker → Seen
 seenCrate (ok linker) = gives (linker .instructions) (linker .func-num-info) (linker .line-num-info)
 seenCrate (err e) = errs e
 seenCrate panics = panicked
@@ -100,10 +100,10 @@ same-seen (errs e) = eq-eqb (errorNumber e) (errorNumber e) refl
 same-seen panicked = refl
 same-seen never = refl
 
-abbrev ours : Input → Seen
+abbrev pub ours : Input → Seen
 ours i = seenOurs (i .tables) (i .root) (ourSteps (i .tables) (i .room) (i .root))
 
-abbrev crate : Input → Result Linker
+abbrev pub crate : Input → Result Linker
 crate i = both-steps (crateOf (i .tables) (hiddenOf i)) (i .tables .maps) (rowOf (i .tables) (i .root) .home) (rowOf (i .tables) (i .root) .address)
 
 abbrev differs : Input → Bool
