@@ -8,7 +8,7 @@ use lib.IntN.{ℤ, pos, negsuc}
 use lib.ListN.{length, replicate}
 use Rattle.rules.specs.declared.Kind.{Kind}
 use Rattle.rules.specs.declared.Kind.the-variants.{Plain, WideLoad, JumpByOffset, JumpByImmediate, Conditional, CallByte, Exit, Unknown}
-use Rattle.rules.specs.Object.{isCall, isBlank, isWideLoad, decide, meaning, displacement, calling, referring}
+use Rattle.rules.specs.Object.{isCall, isBlank, isWideLoad, refused, decide, meaning, displacement, calling, referring}
 use Rattle.rules.specs.Link.{visit, append, link}
 use Rattle.rules.specs.Bytes.{little, u16At, u32At, u64At, bytes4, signed, unsigned, decode, encode, decoded, encoded, padded}
 use Rattle.rules.specs.Answers.{Reply, reply}
@@ -295,3 +295,24 @@ pub walked-image : (
     ∷ [])
 unfolding isCall u16At u32At signed decode decoded kind leads inImage
 walked-image = refl
+
+-- ---- a slot with one relocation, of a Section symbol: what refers to code is not copied under another size, nor is a call that names no code
+abbrev related : ℕ → List (List ℕ) → ℕ → Offered
+related section slots size = record {
+  code = u32 1;
+  symbols = symbol 7 section 0 2;
+  functions = function 1 (length slots) 0 0 0 0;
+  relocations = relocation 1 7 0 size;
+  maps = [];
+  instructions = joined slots;
+  funcInfo = [];
+  lineInfo = [];
+}
+
+pub never-copied : (
+    meaning (objectOf (tablesOf little (related 1 (wide 0x01 0 ∷ second 0 ∷ []) 16))) 0 0
+    ∷ meaning (objectOf (tablesOf little (related 5 (call 0 ∷ []) 32))) 0 0
+    ∷ [])
+    ≡ refused 8 ∷ refused 9 ∷ []
+unfolding isCall isBlank isWideLoad decide meaning objectOf u16At u32At u64At signed decode decoded codeSection symbolIndex symbolSection symbolAddress symbolKind functionSection functionSlots functionAddress functionOffset functionFuncInfo functionLineInfo relocationSection relocationSymbol relocationOffset relocationSize tablesOf
+never-copied = refl
