@@ -10,8 +10,8 @@ fn main() {
     };
     let mut modules = String::new();
     for (name, file) in [("relocation", "src/relocation.rs"), ("info", "src/btf/info.rs")] {
-        let path = fs::canonicalize(sources.join(file))
-            .unwrap_or_else(|e| panic!("{}: {e} (set AYA_OBJ_SRC)", sources.join(file).display()));
+        let path =
+            fs::canonicalize(sources.join(file)).unwrap_or_else(|e| panic!("{}: {e} (set AYA_OBJ_SRC)", sources.join(file).display()));
         println!("cargo:rerun-if-changed={}", path.display());
         let module = format!("#[path = {:?}]\npub mod {name};\n", path.display().to_string());
         let module = if name == "info" { format!("/// BTF records.\npub mod btf {{\n{module}}}\n") } else { module };

@@ -27,6 +27,8 @@ pub struct Both {
     pub maps: Mapped,
     pub link: Option<Linked>,
     pub ran: Ran,
+    /// The crate's map step did not end well, and has changed slots.
+    pub touched: bool,
     pub root: u32,
 }
 
@@ -39,11 +41,11 @@ pub fn run(case: &Case, bite: Option<Bite>) -> Both {
         ours::relocate_maps(&case.bytes)
     };
     let mut link = (maps.number == 0).then(|| ours::link(case, &maps.slots));
-    let ran = theirs::run(case, &rows);
+    let (ran, touched) = theirs::run(case, &rows);
     if let Some(bite) = bite {
         bitten(bite, &mut maps, link.as_mut());
     }
-    Both { rows, said, maps, link, ran, root: case.root }
+    Both { rows, said, maps, link, ran, touched, root: case.root }
 }
 
 fn bitten(bite: Bite, maps: &mut Mapped, link: Option<&mut Linked>) {
@@ -74,14 +76,9 @@ impl Both {
 
     /// How the crate's two steps ended, in a word.
     pub fn crate_ended(&self) -> &'static str {
-        let word = |e: &Ended<()>| match e {
-            Ended::Ok(()) => "ok",
-            Ended::Err(_) => "error",
-            Ended::Panic => "panic",
-        };
         match (&self.ran.maps, &self.ran.calls) {
-            (_, Some(Ended::Ok(_))) => word(&Ended::Ok(())),
-            (Ended::Panic, _) | (_, Some(Ended::Panic)) => word(&Ended::Panic),
+            (_, Some(Ended::Ok(_))) => "ok",
+            (Ended::Panic, _) | (_, Some(Ended::Panic)) => "panic",
             _ => "error",
         }
     }
@@ -98,7 +95,7 @@ impl Both {
                 }
             }
             (Ended::Ok(_), n) => {
-                let then = self.ran.calls.as_ref().map(|c| format!("{:?}", tag(c)));
+                let then = self.ran.calls.as_ref().map(tag);
                 return Some(format!("map step: ours {n}, the crate goes on; its link: {}", then.unwrap_or_default()));
             }
         }
@@ -145,12 +142,15 @@ impl Both {
         let link = self.link.as_ref()?;
         let zero = |bytes: &[u8]| bytes.iter().all(|&b| b == 0);
         match self.said.link.as_ref()? {
-            Err(refused) if (link.number, link.places) != told(*refused) => Some(format!("link gave {} {:?}, not {refused:?}", link.number, link.places)),
+            Err(refused) if (link.number, link.places) != told(*refused) => {
+                Some(format!("link gave {} {:?}, not {refused:?}", link.number, link.places))
+            }
             Err(_) => (!link.out.iter().all(|o| zero(o))).then(|| "a refused link left bytes".to_string()),
             Ok(used) => {
                 let counts = (link.number, link.places) == (0, used.map(|n| n as u32));
                 let same = |i: usize| link.out[i].starts_with(&self.said.out[i]) && zero(&link.out[i][self.said.out[i].len()..]);
-                (!(counts && (0..3).all(same))).then(|| format!("link gave {} {:?}, not {used:?}, or other bytes", link.number, link.places))
+                (!(counts && (0..3).all(same)))
+                    .then(|| format!("link gave {} {:?}, not {used:?}, or other bytes", link.number, link.places))
             }
         }
     }

@@ -99,14 +99,14 @@ fn map_clauses(rows: &Rows, said: &mut Said) {
     if (0..rows.maps.len()).any(|i| rows.maps[i].symbol == NONE && shares(i)) {
         said.outside.push(cause("a map without"));
     }
-    said.spare_clause = rows.functions.iter().enumerate().any(|(row, f)| rows.relocations.iter().any(|r| finds_by_symbol_maps(rows, f, &each[row], r)));
+    said.spare_clause =
+        rows.functions.iter().enumerate().any(|(row, f)| rows.relocations.iter().any(|r| finds_by_symbol_maps(rows, f, &each[row], r)));
     let Err(Refused(number, row, _)) = said.maps else { return };
     // "no refusal but 3, 4, 5, 10"
     said.outside.extend(of_number(number, false));
     // "the function refused by the map step has one refusable relocation"
     let (f, slots) = (&rows.functions[row as usize], &each[row as usize]);
-    let refused: Vec<_> =
-        rows.relocations.iter().filter_map(|r| judge(rows, f, slots, r).map(|number| (r, number))).collect();
+    let refused: Vec<_> = rows.relocations.iter().filter_map(|r| judge(rows, f, slots, r).map(|number| (r, number))).collect();
     if refused.len() > 1 {
         said.outside.push(cause("two refusable"));
     }

@@ -4,7 +4,10 @@ use std::collections::BTreeMap;
 use crate::{
     domain,
     rng::Rng,
-    tables::{Case, EXIT, Function, MOST_ROWS, MOVE, Map, NONE, OTHER, ROW_SIZE, Relocation, Rows, SECTION, Slot, Steps, Symbol, TEXT, call, immediate, insn},
+    tables::{
+        Case, EXIT, Function, MOST_ROWS, MOVE, Map, NONE, OTHER, ROW_SIZE, Relocation, Rows, SECTION, Slot, Steps, Symbol, TEXT, call,
+        immediate, insn,
+    },
 };
 
 /// The kinds, with how often each is made.
@@ -273,7 +276,8 @@ impl Maker<'_> {
 
 /// An address for a Section symbol by which a function can be named, at an immediate of choice.
 fn section_symbol(rng: &mut Rng, f: &Fun, far: bool) -> u64 {
-    let value = if far { rng.pick(&[-1 << 31, (-1 << 31) + 1, -1000, -1, 0, (1 << 31) - 2, (1 << 31) - 3]) } else { rng.between(0, 40) as i64 - 2 };
+    let value =
+        if far { rng.pick(&[-1 << 31, (-1 << 31) + 1, -1000, -1, 0, (1 << 31) - 2, (1 << 31) - 3]) } else { rng.between(0, 40) as i64 - 2 };
     let address = f.address as i64 - if rng.chance(50) { 8 * (value + 1) } else { value };
     if (0..=TOP as i64).contains(&address) { address as u64 } else { f.address / 8 * 8 }
 }
@@ -340,8 +344,13 @@ impl Object {
 
 /// A slot of some function that passes, with its function.
 fn find(rng: &mut Rng, o: &Object, test: impl Fn(&Object, &Fun, usize) -> bool) -> Option<(usize, usize)> {
-    let found: Vec<_> =
-        o.functions.iter().enumerate().flat_map(|(f, fun)| (0..fun.slots.len()).map(move |k| (f, k))).filter(|&(f, k)| test(o, &o.functions[f], k)).collect();
+    let found: Vec<_> = o
+        .functions
+        .iter()
+        .enumerate()
+        .flat_map(|(f, fun)| (0..fun.slots.len()).map(move |k| (f, k)))
+        .filter(|&(f, k)| test(o, &o.functions[f], k))
+        .collect();
     if found.is_empty() { None } else { Some(rng.pick(&found)) }
 }
 
@@ -479,14 +488,19 @@ const ADDED: [Spoiler; 10] = [
     |rng, o| {
         // the last slot of a function
         let symbol = o.symbols.iter().find(|s| [20, 21].contains(&s.section))?.index;
-        let (f, k) = find(rng, o, |o, f, k| k + 1 == f.slots.len() && relocation(o, f, k).is_none() && !crate::model::is_call(&f.slots[k]))?;
+        let (f, k) =
+            find(rng, o, |o, f, k| k + 1 == f.slots.len() && relocation(o, f, k).is_none() && !crate::model::is_call(&f.slots[k]))?;
         set_relocation(o, f, k, (symbol, 64));
         o.functions[f].slots[k][0] = rng.pick(&[0x18, 0x95]);
         Some(())
     },
     |rng, o| {
         let (f, k) = find(rng, o, is_reference)?;
-        if rng.chance(50) { o.functions[f].slots[k][0] = 0xb7 } else { o.functions[f].slots[k + 1][0] = 1 }
+        if rng.chance(50) {
+            o.functions[f].slots[k][0] = 0xb7
+        } else {
+            o.functions[f].slots[k + 1][0] = 1
+        }
         Some(())
     },
     |rng, o| {
@@ -781,48 +795,39 @@ fn of_kind(rng: &mut Rng, kind: &str) -> Case {
             let times = rng.between(2, 5);
             spoiled(rng, layout, times, &all)
         }
-        "damaged" => {
-            let times = rng.below(2);
-            let mut case = spoiled(rng, plain(), times, &all);
-            damage(rng, &mut case);
+        "at the limits" => limits(rng),
+        _ => {
+            let times = if matches!(kind, "damaged" | "calls without maps") { rng.below(2) } else { 0 };
+            let ways = if kind == "damaged" { &all[..] } else { &REFUSALS[..1] };
+            let mut case = spoiled(rng, plain(), times, ways);
+            change(rng, kind, &mut case);
             case
         }
+    }
+}
+
+/// What is not said by rows: bytes, the root, outputs, `num_info`, steps.
+fn change(rng: &mut Rng, kind: &str, case: &mut Case) {
+    match kind {
+        "damaged" => damage(rng, case),
         "num_info" => {
-            let mut case = spoiled(rng, plain(), 0, &all);
             let more = |rng: &mut Rng| rng.pick(&[0, 1, -1, 5]);
             case.root_nums = (more(rng), more(rng));
-            case
         }
-        "short outputs" => {
-            let mut case = spoiled(rng, plain(), 0, &all);
-            shorten(rng, &mut case);
-            case
-        }
-        "no root" => {
-            let mut case = spoiled(rng, plain(), 0, &all);
-            case.root = rng.pick(&[case.bytes[2].len() as u32 / 32, 64, u32::MAX]);
-            case
-        }
-        "calls without maps" | "linked twice" | "two programs" => {
-            let times = u64::from(kind == "calls without maps" && rng.chance(50));
-            let mut case = spoiled(rng, plain(), times, &REFUSALS[..1]);
-            case.steps = match kind {
-                "linked twice" => Steps::LinkedTwice,
-                "two programs" => Steps::TwoPrograms,
-                _ => Steps::CallsAlone,
-            };
-            case
-        }
-        _ => match rng.below(4) {
-            0 | 1 => bare(at_limits(rng)),
-            2 => {
-                let o = clean(rng, &plain());
-                filled(rng, o)
-            }
-            _ => {
-                let o = clean(rng, &plain());
-                overfull(rng, o)
-            }
-        },
+        "short outputs" => shorten(rng, case),
+        "no root" => case.root = rng.pick(&[case.bytes[2].len() as u32 / 32, 64, u32::MAX]),
+        "calls without maps" => case.steps = Steps::CallsAlone,
+        "linked twice" => case.steps = Steps::LinkedTwice,
+        "two programs" => case.steps = Steps::TwoPrograms,
+        _ => unreachable!("no such kind"),
     }
+}
+
+fn limits(rng: &mut Rng) -> Case {
+    let way = rng.below(4);
+    if way < 2 {
+        return bare(at_limits(rng));
+    }
+    let o = clean(rng, &Layout::default());
+    if way == 2 { filled(rng, o) } else { overfull(rng, o) }
 }

@@ -1,5 +1,7 @@
 //! Barkruffle beside the two Rust files that it carries over: see README.md.
+mod bench;
 mod both;
+mod definition;
 mod domain;
 mod generate;
 mod model;
@@ -7,11 +9,13 @@ mod ours;
 mod readers;
 mod report;
 mod rng;
+mod sample;
 mod shrink;
 mod tables;
 mod theirs;
+mod vectors;
 
-use std::process::ExitCode;
+use std::{path::Path, process::ExitCode};
 
 use both::{BITES, Bite};
 use report::Report;
@@ -52,7 +56,10 @@ fn compare(objects: u64, seed: u64, bite: Option<Bite>, report: &mut Report) -> 
         let read = readers::run(&input, k, bite);
         let inside = read.cause == readers::INSIDE;
         if let Some(what) = read.wrong.clone().or_else(|| read.differs.clone().filter(|_| inside)) {
-            let smallest = format!("  reader: line {}, size {}, count {}, output {}, data {:02x?}\n", input.line, input.size, input.count, input.room, input.data);
+            let smallest = format!(
+                "  reader: line {}, size {}, count {}, output {}, data {:02x?}\n",
+                input.line, input.size, input.count, input.room, input.data
+            );
             return Err(Fault { what, smallest });
         }
         report.add_read(&read);
@@ -106,6 +113,22 @@ fn main() -> ExitCode {
     let (objects, seed) = (value("--objects", 100_000), value("--seed", SEED));
     match args.first().map(String::as_str) {
         Some("--bites") => bites(objects, seed),
+        Some("--bench") => {
+            bench::run();
+            ExitCode::SUCCESS
+        }
+        Some("--smallest") => {
+            sample::print_smallest(objects, seed);
+            ExitCode::SUCCESS
+        }
+        Some("--vectors") => {
+            vectors::write(Path::new(args.get(1).expect("--vectors FOLDER")), seed);
+            ExitCode::SUCCESS
+        }
+        Some("--definition") => {
+            definition::write(Path::new(args.get(1).expect("--definition FILE")), seed, value("--per-sort", 1) as usize);
+            ExitCode::SUCCESS
+        }
         _ => run(objects, seed, args.iter().any(|a| a == "--brief")),
     }
 }

@@ -1,6 +1,8 @@
 //! Document 01 in Rust, literal and slow: the checks, the judgement of each map relocation, the link with the callees it reaches.
 //! The domain is stated over it, and Barkruffle's number, places and outputs are held to it on every object.
-use crate::tables::{Bytes, Case, Function, MOST_IMAGE, MOST_ROWS, NONE, ROW_SIZE, Relocation, Rows, SECTION, Slot, Symbol, TEXT, immediate};
+use crate::tables::{
+    Bytes, Case, Function, MOST_IMAGE, MOST_ROWS, NONE, ROW_SIZE, Relocation, Rows, SECTION, Slot, Symbol, TEXT, immediate,
+};
 
 const MOST_SECTION: u32 = 65_535;
 const MOST_ADDRESS: u64 = (1 << 48) - 1;

@@ -10,22 +10,87 @@ pub struct Part {
 unsafe extern "C" {
     #[rustfmt::skip]
     fn barkruffle_relocate_maps(
-        code: *const u8, code_len: usize, symbols: *const u8, symbols_len: usize, functions: *const u8, functions_len: usize,
-        relocations: *const u8, relocations_len: usize, maps: *const u8, maps_len: usize,
-        instructions: *mut u8, instructions_len: usize, places: *mut u8, places_len: usize) -> u32;
+        code: *const u8,
+        code_len: usize,
+        symbols: *const u8,
+        symbols_len: usize,
+        functions: *const u8,
+        functions_len: usize,
+        relocations: *const u8,
+        relocations_len: usize,
+        maps: *const u8,
+        maps_len: usize,
+        instructions: *mut u8,
+        instructions_len: usize,
+        places: *mut u8,
+        places_len: usize,
+    ) -> u32;
     #[rustfmt::skip]
     fn barkruffle_link(
-        code: *const u8, code_len: usize, symbols: *const u8, symbols_len: usize, functions: *const u8, functions_len: usize,
-        relocations: *const u8, relocations_len: usize, instructions: *const u8, instructions_len: usize,
-        func_info: *const u8, func_info_len: usize, line_info: *const u8, line_info_len: usize, root: u32,
-        image: *mut u8, image_len: usize, image_func_info: *mut u8, image_func_info_len: usize,
-        image_line_info: *mut u8, image_line_info_len: usize, places: *mut u8, places_len: usize) -> u32;
-    fn barkruffle_func_info(size: u32, count: u32, bytes: *const u8, len: usize, out: *mut u8, out_len: usize, places: *mut u8, places_len: usize) -> u32;
-    fn barkruffle_line_info(size: u32, count: u32, bytes: *const u8, len: usize, out: *mut u8, out_len: usize, places: *mut u8, places_len: usize) -> u32;
+        code: *const u8,
+        code_len: usize,
+        symbols: *const u8,
+        symbols_len: usize,
+        functions: *const u8,
+        functions_len: usize,
+        relocations: *const u8,
+        relocations_len: usize,
+        instructions: *const u8,
+        instructions_len: usize,
+        func_info: *const u8,
+        func_info_len: usize,
+        line_info: *const u8,
+        line_info_len: usize,
+        root: u32,
+        image: *mut u8,
+        image_len: usize,
+        image_func_info: *mut u8,
+        image_func_info_len: usize,
+        image_line_info: *mut u8,
+        image_line_info_len: usize,
+        places: *mut u8,
+        places_len: usize,
+    ) -> u32;
+    fn barkruffle_func_info(
+        size: u32,
+        count: u32,
+        bytes: *const u8,
+        len: usize,
+        out: *mut u8,
+        out_len: usize,
+        places: *mut u8,
+        places_len: usize,
+    ) -> u32;
+    fn barkruffle_line_info(
+        size: u32,
+        count: u32,
+        bytes: *const u8,
+        len: usize,
+        out: *mut u8,
+        out_len: usize,
+        places: *mut u8,
+        places_len: usize,
+    ) -> u32;
     fn barkruffle_func_info_record(size: u32, count: u32, bytes: *const u8, len: usize, k: u32) -> Part;
     fn barkruffle_line_info_record(size: u32, count: u32, bytes: *const u8, len: usize, k: u32) -> Part;
-    fn barkruffle_func_info_record_number(size: u32, count: u32, bytes: *const u8, len: usize, k: u32, places: *mut u8, places_len: usize) -> u32;
-    fn barkruffle_line_info_record_number(size: u32, count: u32, bytes: *const u8, len: usize, k: u32, places: *mut u8, places_len: usize) -> u32;
+    fn barkruffle_func_info_record_number(
+        size: u32,
+        count: u32,
+        bytes: *const u8,
+        len: usize,
+        k: u32,
+        places: *mut u8,
+        places_len: usize,
+    ) -> u32;
+    fn barkruffle_line_info_record_number(
+        size: u32,
+        count: u32,
+        bytes: *const u8,
+        len: usize,
+        k: u32,
+        places: *mut u8,
+        places_len: usize,
+    ) -> u32;
 }
 
 pub type Places = [u32; 3];
@@ -55,8 +120,20 @@ pub fn relocate_maps(t: &Bytes) -> Mapped {
     let mut places = [0xa5; 12];
     let number = unsafe {
         barkruffle_relocate_maps(
-            t[0].as_ptr(), t[0].len(), t[1].as_ptr(), t[1].len(), t[2].as_ptr(), t[2].len(), t[3].as_ptr(), t[3].len(),
-            t[4].as_ptr(), t[4].len(), slots.as_mut_ptr(), slots.len(), places.as_mut_ptr(), places.len(),
+            t[0].as_ptr(),
+            t[0].len(),
+            t[1].as_ptr(),
+            t[1].len(),
+            t[2].as_ptr(),
+            t[2].len(),
+            t[3].as_ptr(),
+            t[3].len(),
+            t[4].as_ptr(),
+            t[4].len(),
+            slots.as_mut_ptr(),
+            slots.len(),
+            places.as_mut_ptr(),
+            places.len(),
         )
     };
     Mapped { number, places: places_of(places), slots }
@@ -67,10 +144,29 @@ pub fn link_into(t: &Bytes, slots: &[u8], root: u32, out: &mut [Vec<u8>; 3], pla
     let [image, funcs, lines] = out;
     unsafe {
         barkruffle_link(
-            t[0].as_ptr(), t[0].len(), t[1].as_ptr(), t[1].len(), t[2].as_ptr(), t[2].len(), t[3].as_ptr(), t[3].len(),
-            slots.as_ptr(), slots.len(), t[6].as_ptr(), t[6].len(), t[7].as_ptr(), t[7].len(), root,
-            image.as_mut_ptr(), image.len(), funcs.as_mut_ptr(), funcs.len(), lines.as_mut_ptr(), lines.len(),
-            places.as_mut_ptr(), places.len(),
+            t[0].as_ptr(),
+            t[0].len(),
+            t[1].as_ptr(),
+            t[1].len(),
+            t[2].as_ptr(),
+            t[2].len(),
+            t[3].as_ptr(),
+            t[3].len(),
+            slots.as_ptr(),
+            slots.len(),
+            t[6].as_ptr(),
+            t[6].len(),
+            t[7].as_ptr(),
+            t[7].len(),
+            root,
+            image.as_mut_ptr(),
+            image.len(),
+            funcs.as_mut_ptr(),
+            funcs.len(),
+            lines.as_mut_ptr(),
+            lines.len(),
+            places.as_mut_ptr(),
+            places.len(),
         )
     }
 }

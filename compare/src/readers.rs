@@ -48,14 +48,14 @@ pub fn input(rng: &mut Rng) -> Input {
 /// The cause that document 01 gives, with its number.
 pub fn cause(i: &Input) -> (usize, u32) {
     let row = if i.line { 16 } else { 8 };
-    let off_grid = |_: ()| i.data.chunks(i.size as usize).any(|r| r[0] & 7 != 0);
+    let off_grid = || i.data.chunks(i.size as usize).any(|r| r[0] & 7 != 0);
     if i.size == 0 {
         (1, 14)
     } else if i.size < row {
         (0, 14)
     } else if u64::from(i.size) * u64::from(i.count) != i.data.len() as u64 {
         (2, 14)
-    } else if off_grid(()) {
+    } else if off_grid() {
         (3, 14)
     } else if (i.count * row) as usize > i.room {
         (4, 11)

@@ -39,6 +39,7 @@ pub struct Report {
     pub inside: [u64; 15],
     pub features: [u64; FEATURES.len()],
     pub outside: Vec<Outside>,
+    pub touched: u64,
     pub readers: [[u64; 4]; readers::CAUSES.len()],
 }
 
@@ -54,6 +55,7 @@ impl Report {
         if let Some(link) = &both.link {
             self.numbers[1][link.number as usize] += 1;
         }
+        self.touched += u64::from(both.touched);
         if both.said.inside() {
             self.kinds[case.kind][1] += 1;
             self.kinds[case.kind][2] += u64::from(both.number() == 0);
@@ -131,10 +133,14 @@ impl Report {
             println!("  {name:44} {count:9}");
         }
         println!("\noutside the domain: each cause, and the objects that have it alone");
-        println!("{:34} {:>8} {:>8} {:>8} {:>14} {:>10} {:>8}", "cause", "objects", "alone", "equal", "crate accepts", "crate errs", "panics");
+        println!(
+            "{:34} {:>8} {:>8} {:>8} {:>14} {:>10} {:>8}",
+            "cause", "objects", "alone", "equal", "crate accepts", "crate errs", "panics"
+        );
         for (name, o) in CAUSES.iter().zip(&self.outside) {
             println!("{name:34} {:8} {:8} {:8} {:14} {:10} {:8}", o.objects, o.alone, o.equal, o.ok, o.error, o.panic);
         }
+        println!("map steps that the crate did not end well, with slots changed all the same: {}", self.touched);
         println!("\n{:34} {:>8} {:>8} {:>14} {:>19}", "record readers", "inputs", "equal", "crate reads", "panics");
         for (name, [all, equal, reads, panics]) in readers::CAUSES.iter().zip(self.readers) {
             println!("{name:34} {all:8} {equal:8} {reads:14} {panics:19}");
@@ -166,6 +172,7 @@ impl Report {
             // the crate has an error of its own for an unknown program; every other cause makes a difference
             need(o.alone > o.equal || name.starts_with("13"), format!("a difference by this cause alone: {name}"));
         }
+        need(self.touched > 0, "a map step of the crate that fails with slots changed".to_string());
         for (name, counts) in readers::CAUSES.iter().zip(self.readers) {
             need(counts[0] > 0, format!("readers: {name}"));
         }

@@ -88,7 +88,8 @@ fn number(n: u32) -> String {
 /// The rows of a case, in words.
 pub fn words(case: &Case) -> String {
     let rows = Rows::of(&case.bytes);
-    let mut out = format!("  root {}; outputs of {:?} bytes; steps {:?}; num_info off by {:?}\n", case.root, case.room, case.steps, case.root_nums);
+    let mut out =
+        format!("  root {}; outputs of {:?} bytes; steps {:?}; num_info off by {:?}\n", case.root, case.room, case.steps, case.root_nums);
     out += &format!("  code sections {:?}\n", rows.code);
     for s in &rows.symbols {
         out += &format!("  symbol {}: section {}, address {:#x}, kind {}\n", s.index, number(s.section), s.address, s.kind);

@@ -121,16 +121,12 @@ impl Rows {
         let rows = |n: usize| t[n].chunks_exact(ROW_SIZE[n]);
         Self {
             code: rows(0).map(|r| u32_at(r, 0)).collect(),
-            symbols: rows(1)
-                .map(|r| Symbol { index: u32_at(r, 0), section: u32_at(r, 4), address: u64_at(r, 8), kind: r[16] })
-                .collect(),
+            symbols: rows(1).map(|r| Symbol { index: u32_at(r, 0), section: u32_at(r, 4), address: u64_at(r, 8), kind: r[16] }).collect(),
             functions: rows(2).map(function).collect(),
             relocations: rows(3)
                 .map(|r| Relocation { section: u32_at(r, 0), symbol: u32_at(r, 4), offset: u64_at(r, 8), size: r[16] })
                 .collect(),
-            maps: rows(4)
-                .map(|r| Map { section: u32_at(r, 0), symbol: u32_at(r, 4), fd: u32_at(r, 8) as i32, data: r[12] })
-                .collect(),
+            maps: rows(4).map(|r| Map { section: u32_at(r, 0), symbol: u32_at(r, 4), fd: u32_at(r, 8) as i32, data: r[12] }).collect(),
             slots: rows(5).map(|r| r.try_into().unwrap()).collect(),
             funcs: rows(6).map(|r| [u32_at(r, 0), u32_at(r, 4)]).collect(),
             lines: rows(7).map(|r| [u32_at(r, 0), u32_at(r, 4), u32_at(r, 8), u32_at(r, 12)]).collect(),

@@ -199,10 +199,12 @@ fn image(object: &Object) -> Image {
     }
 }
 
-pub fn run(case: &Case, rows: &Rows) -> Ran {
+/// The two steps; and whether a map step that did not end well has changed slots all the same.
+pub fn run(case: &Case, rows: &Rows) -> (Ran, bool) {
     let (mut object, text) = object(case, rows);
     let maps = maps(case, rows);
-    let all = |object: &Object| object.functions.values().flat_map(|f| f.instructions.iter().map(slot_of)).collect();
+    let all = |object: &Object| -> Vec<Slot> { object.functions.values().flat_map(|f| f.instructions.iter().map(slot_of)).collect() };
+    let before = all(&object);
     let mapped = if case.steps == Steps::CallsAlone {
         Ended::Ok(all(&object))
     } else {
@@ -212,7 +214,7 @@ pub fn run(case: &Case, rows: &Rows) -> Ran {
         })
     };
     if !matches!(mapped, Ended::Ok(_)) {
-        return Ran { maps: mapped, calls: None };
+        return (Ran { maps: mapped, calls: None }, all(&object) != before);
     }
     let calls = ended(|| {
         object.relocate_calls(&text)?;
@@ -221,5 +223,5 @@ pub fn run(case: &Case, rows: &Rows) -> Ran {
         }
         Ok(image(&object))
     });
-    Ran { maps: mapped, calls: Some(calls) }
+    (Ran { maps: mapped, calls: Some(calls) }, false)
 }
