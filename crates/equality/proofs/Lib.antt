@@ -23,3 +23,4 @@ pub mod Inhabited
 pub mod Accepted
 pub mod AcceptedBytes
 pub mod MetPlaced
+pub mod Vectors
