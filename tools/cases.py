@@ -7,7 +7,9 @@ case with the answer of tools/model.py, the independent model of document 01.
 The list is the same each time: nothing but a fixed seed is random.
 
 The cases stand in the files tools/cases_*.py, one file for each group:
-tables, maps, links, readers, and random objects.
+tables, maps, links, readers, and random objects.  After them come the vectors
+in compare/vectors: cases of the same form whose lines hold the answers of the
+Rust crate (compare/README.md); the model is held to those as well.
 
 The stream is little-endian.  A case starts with 24 u32: [0] 0x4B524142; [1] the
 kind, 1 link, 2 map step, 3 function records, 4 line records, 5 a function
@@ -26,6 +28,7 @@ import os
 import sys
 
 import model
+from objects import Tables
 
 MAGIC = 0x4B524142
 LINK, MAP_STEP, FUNC_INFO, LINE_INFO, FUNC_RECORD, LINE_RECORD = 1, 2, 3, 4, 5, 6
@@ -108,6 +111,38 @@ class Cases:
         self.map_step(tables, places)
         self.link(tables, root, places=places)
 
+    def join(self, stream, lines):
+        """Cases made elsewhere, with their lines.  The model has to give the same lines."""
+        again = Cases()
+        at = 0
+        while at < len(stream):
+            words = [int.from_bytes(stream[at + 4 * i:at + 4 * i + 4], "little") for i in range(24)]
+            at += 96
+            parts = []
+            for length in words[2:10] + [words[13]]:
+                parts.append(stream[at:at + length])
+                at += length
+            again.repeat(words, parts)
+        assert bytes(again.stream) == stream and again.lines == lines, "the model gives other lines"
+        self.stream += stream
+        for line in lines:
+            self.lines.append(f"{len(self.lines)} {line.split(' ', 1)[1]}")
+        for key, count in again.tally.items():
+            self.tally[key] = self.tally.get(key, 0) + count
+
+    def repeat(self, words, parts):
+        """A case from its header and its parts, answered by the model."""
+        kind, root, size, count, outputs, places = words[1], words[10], words[11], words[12], words[14:17], words[17]
+        tables = Tables()
+        for table in range(1, 9):
+            tables.rows[table] = [parts[table - 1]]
+        if kind == LINK:
+            self.link(tables, root, tuple(outputs), places)
+        elif kind == MAP_STEP:
+            self.map_step(tables, places)
+        else:
+            self.read(kind, size, count, parts[8], outputs[0], places)
+
     @staticmethod
     def meet(expect, answer):
         if expect is not None:
@@ -134,10 +169,23 @@ def make():
     return cases
 
 
+def vectors(cases, folder):
+    """The Rust crate's answers, as `compare --vectors` left them."""
+    before = len(cases.lines)
+    with open(os.path.join(folder, "stdin"), "rb") as file:
+        stream = file.read()
+    with open(os.path.join(folder, "stdout")) as file:
+        lines = file.read().splitlines()
+    cases.join(stream, lines)
+    print(f"compare/vectors: cases {before} to {len(cases.lines) - 1}")
+
+
 def main():
+    home = os.path.join(os.path.dirname(os.path.abspath(sys.argv[0])), "..")
     cases = make()
+    vectors(cases, os.path.join(home, "compare", "vectors"))
     cases.report()
-    folder = os.path.join(os.path.dirname(os.path.abspath(sys.argv[0])), "..", "crates", "replay")
+    folder = os.path.join(home, "crates", "replay")
     with open(os.path.join(folder, "stdin"), "wb") as file:
         file.write(cases.stream)
     with open(os.path.join(folder, "stdout"), "w") as file:
