@@ -3,8 +3,8 @@ use std::{collections::BTreeSet, fs, path::Path};
 
 use crate::{
     both::{self, Both},
-    sample, shrink,
-    tables::{Case, Map, NONE, Rows, SECTION, Slot, Steps, TEXT, immediate},
+    model, sample, shrink,
+    tables::{Case, Map, NONE, Rows, SECTION, Slot, Steps, Symbol, TEXT, immediate},
     theirs::{self, Cause, Ended, Image},
 };
 
@@ -140,17 +140,41 @@ fn sort(case: &Case, both: &Both) -> Option<String> {
     let steps = matches!(case.steps, Steps::MapsThenCalls | Steps::CallsAlone);
     let broken = both.said.outside.iter().any(|&c| c < 2);
     let two = sample::causes(both).contains("two refusable");
-    if !small || !steps || broken || two || both.said.outside.len() > 2 || !sample::is_steady(case, both) {
+    if !small || !steps || broken || two || both.said.outside.len() > 1 {
         return None;
     }
-    let causes = sample::causes(both);
     if !both.said.inside() {
-        return Some(format!("{causes}: {}", both.difference().unwrap_or_default()));
+        let difference = both.difference().unwrap_or("equal all the same".to_string());
+        return Some(format!("{}{}: {difference}", sample::causes(both), form(both)));
     }
+    Some(format!("inside, {}", inside(both)))
+}
+
+/// Which form it is that 8 does not know.
+fn form(both: &Both) -> &'static str {
+    let named = |test: fn(&Symbol) -> bool| both.rows.relocations.iter().filter_map(|r| model::symbol_of(&both.rows, r)).any(test);
+    match both.number() {
+        8 if named(|s| s.kind == TEXT && s.section == NONE) => " (Text without a section)",
+        8 if named(|s| s.kind == SECTION) => " (a size)",
+        8 => " (another kind)",
+        _ => "",
+    }
+}
+
+/// What an object inside the domain shows.
+fn inside(both: &Both) -> String {
     let reference = both.said.out[0].chunks(8).any(|s| s[0] == 0x18 && s[1] >> 4 == 4);
-    let applied = both.said.maps.as_ref().map_or(0, |m| m.1);
-    let shown = (both.said.reached.len().min(2), reference, applied.min(1), rows.lines.len().min(2) / 2, rows.funcs.len().min(1));
-    Some(format!("inside: {} {shown:?}", both.number()))
+    let applied = both.said.maps.as_ref().is_ok_and(|m| m.1 > 0);
+    let answer = if both.number() == 0 { "accepted".to_string() } else { format!("refused by {}", both.number()) };
+    let reached = ["nothing reached", "one callee reached", "callees reached"][both.said.reached.len().min(2)];
+    let shown = [
+        (reference, "a reference"),
+        (applied, "a map set"),
+        (!both.rows.funcs.is_empty(), "function records"),
+        (both.rows.lines.len() > 1, "line records"),
+    ];
+    let shown: String = shown.iter().filter(|(shows, _)| *shows).map(|(_, what)| format!(", {what}")).collect();
+    format!("{answer}: {reached}{shown}")
 }
 
 const HEAD: &str = include_str!("definition.head");
@@ -158,14 +182,17 @@ const HEAD: &str = include_str!("definition.head");
 /// The object of a sort; outside the domain, with nothing in it that the sort does without.
 fn shown(name: &str, case: &Case) -> (Case, Both) {
     let inside = both::run(case, None).said.inside();
-    let same = |c: &Case| sort(c, &both::run(c, None)).as_deref() == Some(name);
+    let same = |c: &Case| {
+        let both = both::run(c, None);
+        sort(c, &both).as_deref() == Some(name) && sample::is_steady(c, &both)
+    };
     let case = if inside { case.clone() } else { shrink::smallest(case, same) };
     let both = both::run(&case, None);
     (case, both)
 }
 
 pub fn write(file: &Path, seed: u64, per_sort: usize) {
-    let picked = sample::smallest_of(60_000, seed, per_sort, sort);
+    let picked = sample::smallest_of(500_000, seed, per_sort, true, sort);
     let sorts: BTreeSet<&String> = picked.iter().map(|(name, _)| name).collect();
     let unfolding = HEAD.lines().find_map(|l| l.strip_prefix("-- unfolding: ")).expect("the head names what is unfolded");
     let mut out: String = HEAD.lines().filter(|l| !l.starts_with("-- unfolding: ")).map(|l| format!("{l}\n")).collect();

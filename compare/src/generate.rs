@@ -27,7 +27,7 @@ pub const KINDS: [(&str, u64); 16] = [
     ("calls without maps", 20),
     ("linked twice", 10),
     ("two programs", 10),
-    ("at the limits", 6),
+    ("at the limits", 8),
 ];
 
 const TOP: u64 = (1 << 48) - 1;
@@ -679,8 +679,25 @@ fn two(slots: [usize; 2], funcs: [usize; 2], lines: [usize; 2], calls: bool) -> 
     o
 }
 
+/// The highest numbers that fields hold, or one of them passed.
+fn at_edges(rng: &mut Rng) -> Object {
+    let past = rng.below(10);
+    let more = |which: u64, n: u64| if past == which { n + 1 } else { n };
+    let section = more(0, 65_535) as u32;
+    let index = more(1, 0xffff_fffe) as u32;
+    let last = TOP - 7;
+    let code = vec![section];
+    let symbols = vec![Symbol { index, section, address: more(2, TOP), kind: TEXT }];
+    let mut relocations = BTreeMap::new();
+    relocations.insert((section, more(3, last)), (index, 32));
+    let slots = if past == 4 { 4097 } else { rng.pick(&[1, 2, 4096]) };
+    let caller = Fun { section, address: 0, offset: if past == 5 { TOP + 1 } else { last }, slots: vec![call(-1)], ..Fun::default() };
+    let callee = Fun { section, address: more(2, TOP), offset: last - 8 * slots as u64, slots: vec![EXIT; slots], ..Fun::default() };
+    Object { code, symbols, relocations, functions: vec![caller, callee], ..Object::default() }
+}
+
 fn at_limits(rng: &mut Rng) -> Object {
-    match rng.below(14) {
+    match rng.below(18) {
         0 => two([4096, 1], [0; 2], [0; 2], false),
         1 => two([2048, 2048], [1; 2], [5; 2], true),
         2 => two([2048, 2049], [1; 2], [5; 2], true),
@@ -694,7 +711,8 @@ fn at_limits(rng: &mut Rng) -> Object {
         10 => two([4096, 4096], [0; 2], [0; 2], false),
         11 => chain(64, 64, false),
         12 => two([4095, 2], [256, 0], [4095, 1], rng.chance(50)),
-        _ => two([4096, 4096], [256, 0], [0, 4096], false),
+        13 => two([4096, 4096], [256, 0], [0, 4096], false),
+        _ => at_edges(rng),
     }
 }
 

@@ -10,8 +10,14 @@ use crate::{
     tables::{Case, Steps},
 };
 
-/// Of each sort that `sort` names, the `most` objects with the fewest bytes.
-pub fn smallest_of(objects: u64, seed: u64, most: usize, sort: impl Fn(&Case, &Both) -> Option<String>) -> Vec<(String, Case)> {
+/// Of each sort that `sort` names, the `most` objects with the fewest bytes, and with `steady` only those of `is_steady`.
+pub fn smallest_of(
+    objects: u64,
+    seed: u64,
+    most: usize,
+    steady: bool,
+    sort: impl Fn(&Case, &Both) -> Option<String>,
+) -> Vec<(String, Case)> {
     let mut rng = Rng::new(seed);
     let mut sorts: BTreeMap<String, Vec<(usize, Case)>> = BTreeMap::new();
     for _ in 0..objects {
@@ -20,7 +26,8 @@ pub fn smallest_of(objects: u64, seed: u64, most: usize, sort: impl Fn(&Case, &B
         let Some(name) = sort(&case, &both) else { continue };
         let size = case.bytes.iter().map(Vec::len).sum();
         let kept = sorts.entry(name).or_default();
-        if kept.len() < most || kept.last().is_some_and(|(s, _)| size < *s) {
+        let smaller = kept.len() < most || kept.last().is_some_and(|(s, _)| size < *s);
+        if smaller && (!steady || is_steady(&case, &both)) {
             let at = kept.partition_point(|(s, _)| *s <= size);
             kept.insert(at, (size, case));
             kept.truncate(most);
@@ -44,7 +51,7 @@ pub fn print_smallest(objects: u64, seed: u64) {
         let difference = both.difference().filter(|_| both.said.outside.len() == 1)?;
         (case.bytes[2].len() < 600 && case.bytes[3].len() < 600).then(|| format!("{}: {difference}", causes(both)))
     };
-    for (name, case) in smallest_of(objects, seed, 1, sort) {
+    for (name, case) in smallest_of(objects, seed, 1, false, sort) {
         let small = shrink::smallest(&case, |c| {
             let both = both::run(c, None);
             sort(c, &both).as_ref() == Some(&name)

@@ -95,80 +95,47 @@ vectors-1 : (
     steps (tables
     []
     []
-    (fun 9 3 2101248 4096 0 0 ∷ [])
+    (fun 9 1 4096 4096 0 0 ∷ [])
     []
-    (insn 133 0 1 (pos 0) (pos 262143) ∷ insn 149 0 0 (pos 0) (pos 0) ∷ insn 149 0 0 (pos 0) (pos 0) ∷ [])
+    (insn 133 0 1 (pos 0) (negsuc 0) ∷ [])
     []
     [])
     (0 ∷ []) (0 ∷ [])
-    [] 9 2101248
+    [] 9 4096
     -- 12: line record outside: link: ours 12, the crate UnknownFunction
     ∷ steps (tables
-    (3 ∷ [])
-    (sym 2 (some 3) 1048542 section ∷ [])
-    (fun 3 3 1048576 0 0 0 ∷ fun 3 2 1048592 16 0 2 ∷ [])
-    (rel 3 2 16 64 ∷ [])
-    (insn 133 0 1 (pos 0) (pos 131073) ∷ insn 149 0 0 (pos 0) (pos 0) ∷ insn 149 0 0 (pos 0) (pos 0) ∷ insn 24 3 0 (pos 0) (pos 34) ∷ insn 0 0 0 (pos 0) (pos 0) ∷ [])
     []
-    (line 0 2 246 767315677 ∷ line 3 2 353 4274514172 ∷ []))
-    (0 ∷ 0 ∷ []) (0 ∷ 2 ∷ [])
-    [] 3 1048592
+    []
+    (fun 2 3 1048576 0 0 2 ∷ [])
+    []
+    (insn 133 0 1 (pos 0) (pos 131071) ∷ insn 149 0 0 (pos 0) (pos 0) ∷ insn 133 0 1 (pos 0) (pos 1000) ∷ [])
+    []
+    (line 10 2 204 2445297954 ∷ line 9 1 252 414631215 ∷ []))
+    (0 ∷ []) (2 ∷ [])
+    [] 2 1048576
     -- 12: line record outside: link: ours 12, the crate accepts
     ∷ steps (tables
     []
     []
-    (fun 2 1 4096 4096 0 2 ∷ [])
+    (fun 1 1 0 0 0 2 ∷ [])
     []
     (insn 133 0 1 (pos 0) (negsuc 0) ∷ [])
     []
-    (line 4194314 0 441 2840049000 ∷ line 10 2 205 608756559 ∷ []))
+    (line 0 0 257 2933814872 ∷ line 1 1 240 1548569513 ∷ []))
     (0 ∷ []) (2 ∷ [])
-    [] 2 4096
+    [] 1 0
     -- 12: line record outside: link: ours 12, the crate panics
     ∷ steps (tables
-    (4 ∷ [])
-    (sym 0 (some 4) 549752676336 section ∷ sym 1 none 140737487306744 text ∷ [])
-    (fun 1 2 140737487306744 0 0 0 ∷ fun 4 1 549752676344 8192 0 2 ∷ [])
-    (rel 1 0 8 32 ∷ rel 4 1 8192 64 ∷ [])
-    (insn 149 0 0 (pos 0) (pos 0) ∷ insn 133 0 1 (pos 0) (pos 0) ∷ insn 149 0 0 (pos 0) (pos 0) ∷ [])
+    (2 ∷ [])
+    (sym 0 (some 2) 4096 other ∷ [])
+    (fun 2 6 4096 4096 0 2 ∷ [])
+    (rel 2 0 4136 0 ∷ [])
+    (insn 149 0 0 (pos 0) (pos 0) ∷ insn 149 0 0 (pos 0) (pos 0) ∷ insn 149 0 0 (pos 0) (pos 0) ∷ insn 133 0 1 (pos 0) (negsuc 3) ∷ insn 149 0 0 (pos 0) (pos 0) ∷ insn 149 0 0 (pos 0) (pos 0) ∷ [])
     []
-    (line 10 1 498 2084464616 ∷ line 9 0 11 4196203091 ∷ []))
-    (0 ∷ 0 ∷ []) (0 ∷ 2 ∷ [])
-    [] 1 140737487306744
-    -- 12: line record outside; top immediate in a call: link: ours 12, the crate UnknownFunction
-    ∷ steps (tables
-    []
-    []
-    (fun 4 4 4096 4096 0 3 ∷ fun 4 1 17179873296 17179873296 0 0 ∷ [])
-    []
-    (insn 149 0 0 (pos 0) (pos 0) ∷ insn 149 0 0 (pos 0) (pos 0) ∷ insn 133 0 1 (pos 0) (pos 2147483647) ∷ insn 133 0 1 (pos 0) (negsuc 3) ∷ insn 149 0 0 (pos 0) (pos 0) ∷ [])
-    []
-    (line 4294967286 1 142 3021448358 ∷ line 4294967289 0 213 2931380422 ∷ line 4294967290 0 463 239215465 ∷ []))
-    (0 ∷ 0 ∷ []) (3 ∷ 0 ∷ [])
-    [] 4 4096
-    -- 12: line record outside; top immediate in a call: link: ours 12, the crate accepts
-    ∷ steps (tables
-    []
-    (sym 1 (some 2) 2101251 text ∷ [])
-    (fun 2 1 2101251 4096 0 2 ∷ [])
-    (rel 2 1 4096 64 ∷ [])
-    (insn 133 0 1 (pos 0) (pos 2147483647) ∷ [])
-    []
-    (line 4294967289 2 116 2660956729 ∷ line 4294967286 2 5 4159911582 ∷ []))
+    (line 1 0 294 1012854505 ∷ line 0 1 40 821944650 ∷ []))
     (0 ∷ []) (2 ∷ [])
-    [] 2 2101251
-    -- 12: line record outside; top immediate, size-32 reference: link: ours 12, the crate accepts
-    ∷ steps (tables
-    (3 ∷ [])
-    (sym 8 (some 3) 4096 text ∷ [])
-    (fun 2 4 0 0 0 2 ∷ fun 3 1 4096 4096 0 0 ∷ [])
-    (rel 2 8 24 32 ∷ [])
-    (insn 149 0 0 (pos 0) (pos 0) ∷ insn 149 0 0 (pos 0) (pos 0) ∷ insn 133 0 1 (pos 0) (negsuc 2) ∷ insn 24 8 0 (pos 0) (pos 2147483647) ∷ insn 149 0 0 (pos 0) (pos 0) ∷ [])
-    []
-    (line 0 0 302 170531275 ∷ line 5 2 364 4134720736 ∷ []))
-    (0 ∷ 0 ∷ []) (2 ∷ 0 ∷ [])
-    [] 2 0
-    -- 13: no root:
+    [] 2 4096
+    -- 13: no root: equal all the same
     ∷ steps (tables
     []
     []
@@ -179,758 +146,758 @@ vectors-1 : (
     [])
     [] []
     [] 65536 0
-    -- 5, a map has the section: map step: ours 5, the crate UnknownSymbol
+    -- 5, a map has the section: equal all the same
     ∷ steps (tables
     []
-    (sym 7 (some 20) 10 other ∷ [])
-    (fun 3 1 1048576 0 0 0 ∷ fun 3 1 1048608 32 0 0 ∷ [])
-    (rel 3 7 0 0 ∷ rel 3 12 32 32 ∷ [])
-    (insn 149 0 0 (pos 0) (pos 0) ∷ insn 149 0 0 (pos 0) (pos 0) ∷ [])
+    (sym 2 (some 21) 55 other ∷ sym 9 (some 65535) 39 other ∷ [])
+    (fun 2 1 0 0 0 0 ∷ fun 4 5 0 0 0 0 ∷ [])
+    (rel 2 2 0 0 ∷ rel 4 9 32 64 ∷ [])
+    (insn 149 0 0 (pos 0) (pos 0) ∷ insn 149 0 0 (pos 0) (pos 0) ∷ insn 149 0 0 (pos 0) (pos 0) ∷ insn 149 0 0 (pos 0) (pos 0) ∷ insn 149 0 0 (pos 0) (pos 0) ∷ insn 149 0 0 (pos 0) (pos 0) ∷ [])
     []
     [])
     (0 ∷ 0 ∷ []) (0 ∷ 0 ∷ [])
-    (map-row 20 (some 112) (pos 285242169) false ∷ []) 3 1048576
+    (map-row 21 (some 114) (negsuc 0) false ∷ []) 2 0
+    -- 5, a map has the section: map step: ours 5, the crate InvalidRelocationOffset
+    ∷ steps (tables
+    []
+    (sym 7 (some 20) 0 other ∷ [])
+    (fun 3 2 0 0 0 0 ∷ fun 4 6 4096 4096 0 0 ∷ [])
+    (rel 3 7 0 64 ∷ rel 4 0 4137 64 ∷ [])
+    (insn 149 0 0 (pos 0) (pos 0) ∷ insn 149 0 0 (pos 0) (pos 0) ∷ insn 149 0 0 (pos 0) (pos 0) ∷ insn 149 0 0 (pos 0) (pos 0) ∷ insn 149 0 0 (pos 0) (pos 0) ∷ insn 149 0 0 (pos 0) (pos 0) ∷ insn 149 0 0 (pos 0) (pos 0) ∷ insn 149 0 0 (pos 0) (pos 0) ∷ [])
+    []
+    [])
+    (0 ∷ 3612614536 ∷ []) (0 ∷ 3834157536 ∷ [])
+    (map-row 20 (some 112) (pos 6) true ∷ []) 3 0
+    -- 5, a map has the section: map step: ours 5, the crate UnknownSymbol
+    ∷ steps (tables
+    []
+    (sym 5 (some 20) 52 other ∷ [])
+    (fun 1 2 2101248 4096 0 0 ∷ fun 1 1 2101288 4136 0 0 ∷ [])
+    (rel 1 5 4104 0 ∷ rel 1 11 4136 32 ∷ [])
+    (insn 149 0 0 (pos 0) (pos 0) ∷ insn 149 0 0 (pos 0) (pos 0) ∷ insn 149 0 0 (pos 0) (pos 0) ∷ [])
+    []
+    [])
+    (0 ∷ 0 ∷ []) (0 ∷ 0 ∷ [])
+    (map-row 20 (some 111) (pos 46) false ∷ []) 1 2101248
     -- 5, a map has the section: map step: ours 5, the crate goes on; its link: UnknownFunction
     ∷ steps (tables
     []
-    (sym 0 (some 20) 43 other ∷ [])
-    (fun 1 3 0 0 0 0 ∷ [])
-    (rel 1 0 8 32 ∷ [])
+    (sym 2 (some 20) 18 other ∷ [])
+    (fun 2 3 0 0 0 0 ∷ [])
+    (rel 2 2 16 32 ∷ [])
     (insn 133 0 1 (pos 0) (negsuc 1) ∷ insn 149 0 0 (pos 0) (pos 0) ∷ insn 149 0 0 (pos 0) (pos 0) ∷ [])
     []
     [])
     (0 ∷ []) (0 ∷ [])
-    (map-row 20 (some 111) (pos 21) true ∷ []) 1 0
+    (map-row 20 (some 107) (pos 67) false ∷ []) 2 0
+    -- 5, a map has the section: map step: ours 5, the crate goes on; its link: accepts
+    ∷ steps (tables
+    []
+    (sym 0 (some 20) 48 section ∷ [])
+    (fun 1 3 4096 4096 0 0 ∷ [])
+    (rel 1 0 4112 64 ∷ [])
+    (insn 149 0 0 (pos 0) (pos 0) ∷ insn 149 0 0 (pos 0) (pos 0) ∷ insn 149 0 0 (pos 0) (pos 0) ∷ [])
+    []
+    [])
+    (0 ∷ []) (0 ∷ [])
+    (map-row 20 (some 105) (pos 2016657407) false ∷ []) 1 4096
     ∷ [])
     ≡ (
-    (leaves (insn 133 0 1 (pos 0) (pos 262143) ∷ insn 149 0 0 (pos 0) (pos 0) ∷ insn 149 0 0 (pos 0) (pos 0) ∷ []) ∷ gives (insn 133 0 1 (pos 0) (pos 2) ∷ insn 149 0 0 (pos 0) (pos 0) ∷ insn 149 0 0 (pos 0) (pos 0) ∷ insn 133 0 1 (pos 0) (negsuc 0) ∷ insn 149 0 0 (pos 0) (pos 0) ∷ insn 149 0 0 (pos 0) (pos 0) ∷ []) [] 0 [] 0 ∷ [])
-    ∷ (leaves (insn 133 0 1 (pos 0) (pos 131073) ∷ insn 149 0 0 (pos 0) (pos 0) ∷ insn 149 0 0 (pos 0) (pos 0) ∷ insn 24 3 0 (pos 0) (pos 34) ∷ insn 0 0 0 (pos 0) (pos 0) ∷ []) ∷ errs unknown-function ∷ [])
-    ∷ (leaves (insn 133 0 1 (pos 0) (negsuc 0) ∷ []) ∷ gives (insn 133 0 1 (pos 0) (pos 0) ∷ insn 133 0 1 (pos 0) (negsuc 0) ∷ []) [] 0 (line 4194314 0 441 2840049000 ∷ line 10 2 205 608756559 ∷ line 1 0 441 2840049000 ∷ line 4290772993 2 205 608756559 ∷ []) 4 ∷ [])
-    ∷ (leaves (insn 149 0 0 (pos 0) (pos 0) ∷ insn 133 0 1 (pos 0) (pos 0) ∷ insn 149 0 0 (pos 0) (pos 0) ∷ []) ∷ panicked ∷ [])
-    ∷ (leaves (insn 149 0 0 (pos 0) (pos 0) ∷ insn 149 0 0 (pos 0) (pos 0) ∷ insn 133 0 1 (pos 0) (pos 2147483647) ∷ insn 133 0 1 (pos 0) (negsuc 3) ∷ insn 149 0 0 (pos 0) (pos 0) ∷ []) ∷ errs unknown-function ∷ [])
-    ∷ (leaves (insn 133 0 1 (pos 0) (pos 2147483647) ∷ []) ∷ gives (insn 133 0 1 (pos 0) (pos 0) ∷ insn 133 0 1 (pos 0) (negsuc 0) ∷ []) [] 0 (line 4294967289 2 116 2660956729 ∷ line 4294967286 2 5 4159911582 ∷ line 1 2 116 2660956729 ∷ line 4294967294 2 5 4159911582 ∷ []) 4 ∷ [])
-    ∷ (leaves (insn 149 0 0 (pos 0) (pos 0) ∷ insn 149 0 0 (pos 0) (pos 0) ∷ insn 133 0 1 (pos 0) (negsuc 2) ∷ insn 24 8 0 (pos 0) (pos 2147483647) ∷ insn 149 0 0 (pos 0) (pos 0) ∷ []) ∷ gives (insn 149 0 0 (pos 0) (pos 0) ∷ insn 149 0 0 (pos 0) (pos 0) ∷ insn 133 0 1 (pos 0) (pos 1) ∷ insn 24 8 4 (pos 0) (pos 4) ∷ insn 149 0 0 (pos 0) (pos 0) ∷ insn 149 0 0 (pos 0) (pos 0) ∷ insn 133 0 1 (pos 0) (negsuc 2) ∷ insn 24 8 4 (pos 0) (pos 0) ∷ insn 149 0 0 (pos 0) (pos 0) ∷ []) [] 0 (line 0 0 302 170531275 ∷ line 5 2 364 4134720736 ∷ line 4 0 302 170531275 ∷ line 9 2 364 4134720736 ∷ []) 4 ∷ [])
+    (leaves (insn 133 0 1 (pos 0) (negsuc 0) ∷ []) ∷ gives (insn 133 0 1 (pos 0) (pos 0) ∷ insn 133 0 1 (pos 0) (negsuc 0) ∷ []) [] 0 [] 0 ∷ [])
+    ∷ (leaves (insn 133 0 1 (pos 0) (pos 131071) ∷ insn 149 0 0 (pos 0) (pos 0) ∷ insn 133 0 1 (pos 0) (pos 1000) ∷ []) ∷ errs unknown-function ∷ [])
+    ∷ (leaves (insn 133 0 1 (pos 0) (negsuc 0) ∷ []) ∷ gives (insn 133 0 1 (pos 0) (pos 0) ∷ insn 133 0 1 (pos 0) (negsuc 0) ∷ []) [] 0 (line 0 0 257 2933814872 ∷ line 1 1 240 1548569513 ∷ line 1 0 257 2933814872 ∷ line 2 1 240 1548569513 ∷ []) 4 ∷ [])
+    ∷ (leaves (insn 149 0 0 (pos 0) (pos 0) ∷ insn 149 0 0 (pos 0) (pos 0) ∷ insn 149 0 0 (pos 0) (pos 0) ∷ insn 133 0 1 (pos 0) (negsuc 3) ∷ insn 149 0 0 (pos 0) (pos 0) ∷ insn 149 0 0 (pos 0) (pos 0) ∷ []) ∷ panicked ∷ [])
     ∷ (leaves [] ∷ errs unknown-program ∷ [])
+    ∷ (errs section-not-found ∷ errs section-not-found ∷ [])
+    ∷ (errs invalid-relocation-offset ∷ errs invalid-relocation-offset ∷ [])
     ∷ (errs unknown-symbol ∷ errs unknown-symbol ∷ [])
-    ∷ (leaves (insn 133 0 1 (pos 0) (negsuc 1) ∷ insn 149 0 2 (pos 0) (pos 21) ∷ insn 149 0 0 (pos 0) (pos 43) ∷ []) ∷ errs unknown-function ∷ [])
+    ∷ (leaves (insn 133 0 1 (pos 0) (negsuc 1) ∷ insn 149 0 0 (pos 0) (pos 0) ∷ insn 149 0 1 (pos 0) (pos 67) ∷ []) ∷ errs unknown-function ∷ [])
+    ∷ (leaves (insn 149 0 0 (pos 0) (pos 0) ∷ insn 149 0 0 (pos 0) (pos 0) ∷ insn 149 0 1 (pos 0) (pos 2016657407) ∷ []) ∷ gives (insn 149 0 0 (pos 0) (pos 0) ∷ insn 149 0 0 (pos 0) (pos 0) ∷ insn 149 0 1 (pos 0) (pos 2016657407) ∷ []) [] 0 [] 0 ∷ [])
     ∷ [])
 unfolding signed u32 u64 i32 add-u64 mul-u64 add-u32 sub-u32 add-i32 sub-i32 insn-is-call relocate-map relocate-maps relocate-functions object-relocate-maps slot-of relocate-from relocate link-new Crate.link relocate-calls crateOf both-steps
 vectors-1 = refl
 
 vectors-2 : (
-    -- 5, a map has the section: map step: ours 5, the crate goes on; its link: accepts
-    steps (tables
-    []
-    (sym 0 (some 21) 0 other ∷ [])
-    (fun 2 3 0 0 0 0 ∷ [])
-    (rel 2 0 8 0 ∷ [])
-    (insn 149 0 0 (pos 0) (pos 0) ∷ insn 149 0 0 (pos 0) (pos 0) ∷ insn 149 0 0 (pos 0) (pos 0) ∷ [])
-    []
-    [])
-    (0 ∷ []) (0 ∷ [])
-    (map-row 21 (some 105) (pos 58) true ∷ []) 2 0
     -- 5, a map has the section: map step: ours 5, the crate goes on; its link: panics
-    ∷ steps (tables
-    []
-    (sym 3 none 1048576 text ∷ sym 7 (some 21) 12 other ∷ [])
-    (fun 3 4 1048576 0 0 0 ∷ [])
-    (rel 3 7 8 32 ∷ rel 3 3 24 64 ∷ [])
-    (insn 149 0 0 (pos 0) (pos 0) ∷ insn 149 0 0 (pos 0) (pos 0) ∷ insn 149 0 0 (pos 0) (pos 0) ∷ insn 149 0 0 (pos 0) (pos 0) ∷ [])
+    steps (tables
+    (3 ∷ [])
+    (sym 2 (some 21) 1 other ∷ sym 5 (some 3) 0 other ∷ [])
+    (fun 3 5 0 0 0 0 ∷ [])
+    (rel 3 5 0 32 ∷ rel 3 2 32 64 ∷ [])
+    (insn 149 0 0 (pos 0) (pos 0) ∷ insn 149 0 0 (pos 0) (pos 0) ∷ insn 149 0 0 (pos 0) (pos 0) ∷ insn 149 0 0 (pos 0) (pos 0) ∷ insn 149 0 0 (pos 0) (pos 0) ∷ [])
     []
     [])
     (0 ∷ []) (0 ∷ [])
-    (map-row 21 (some 0) (pos 1192617515) true ∷ []) 3 1048576
+    (map-row 21 (some 9) (negsuc 0) false ∷ []) 3 0
     -- 5, a map has the section: map step: ours 5, the crate panics
     ∷ steps (tables
     []
-    (sym 0 (some 21) 2 other ∷ [])
-    (fun 4 4 0 0 0 0 ∷ [])
-    (rel 4 0 24 64 ∷ [])
-    (insn 149 0 0 (pos 0) (pos 0) ∷ insn 149 0 0 (pos 0) (pos 0) ∷ insn 149 0 0 (pos 0) (pos 0) ∷ insn 149 0 0 (pos 0) (pos 0) ∷ [])
+    (sym 1 (some 20) 53 other ∷ [])
+    (fun 9 3 4096 4096 0 0 ∷ [])
+    (rel 9 1 4112 64 ∷ [])
+    (insn 149 0 0 (pos 0) (pos 0) ∷ insn 149 0 0 (pos 0) (pos 0) ∷ insn 149 0 0 (pos 0) (pos 0) ∷ [])
     []
     [])
     (0 ∷ []) (0 ∷ [])
-    (map-row 21 (some 6) (negsuc 0) true ∷ []) 4 0
-    -- 5, kind Text:
+    (map-row 20 (some 106) (negsuc 0) true ∷ []) 9 4096
+    -- 5, kind Text: equal all the same
     ∷ steps (tables
     []
-    (sym 2 (some 20) 36 text ∷ [])
-    (fun 4 2 1048576 0 0 0 ∷ [])
-    (rel 4 2 8 0 ∷ [])
-    (insn 149 0 0 (pos 0) (pos 0) ∷ insn 149 0 0 (pos 0) (pos 0) ∷ [])
+    (sym 1 (some 21) 56 text ∷ [])
+    (fun 2 1 0 0 0 0 ∷ [])
+    (rel 2 1 0 64 ∷ [])
+    (insn 149 0 0 (pos 0) (pos 0) ∷ [])
     []
     [])
     (0 ∷ []) (0 ∷ [])
-    [] 4 1048576
+    [] 2 0
     -- 5, kind Text: map step: ours 5, the crate goes on; its link: UnknownFunction
     ∷ steps (tables
     []
-    (sym 6 (some 21) 33 text ∷ [])
-    (fun 9 2 4206592 12288 0 0 ∷ [])
-    (rel 9 6 12296 64 ∷ [])
-    (insn 149 0 0 (pos 0) (pos 0) ∷ insn 149 0 0 (pos 0) (pos 0) ∷ [])
+    (sym 0 (some 21) 32 text ∷ [])
+    (fun 3 3 2 0 0 0 ∷ [])
+    (rel 3 0 8 64 ∷ [])
+    (insn 149 0 0 (pos 0) (pos 0) ∷ insn 149 0 0 (pos 0) (pos 0) ∷ insn 149 0 0 (pos 0) (pos 0) ∷ [])
     []
     [])
     (0 ∷ []) (0 ∷ [])
-    (map-row 33 (some 6) (pos 65) false ∷ []) 9 4206592
+    (map-row 33 (some 0) (pos 89) true ∷ []) 3 2
     -- 5, kind Text: map step: ours 5, the crate goes on; its link: accepts
     ∷ steps (tables
     []
-    (sym 3 (some 21) 51 text ∷ [])
-    (fun 2 1 4096 4096 0 0 ∷ fun 2 1 4128 4128 0 0 ∷ [])
-    (rel 2 3 4128 32 ∷ [])
-    (insn 149 0 0 (pos 0) (pos 0) ∷ insn 149 0 0 (pos 0) (pos 0) ∷ [])
-    []
-    [])
-    (0 ∷ 0 ∷ []) (0 ∷ 0 ∷ [])
-    (map-row 33 (some 3) (negsuc 0) false ∷ []) 2 4096
-    -- 5, kind Text; 5, a map has the section:
-    ∷ steps (tables
-    []
-    (sym 6 (some 21) 21 text ∷ sym 10 (some 20) 31 text ∷ [])
-    (fun 9 4 4096 4096 0 0 ∷ fun 9 2 4144 4144 0 0 ∷ [])
-    (rel 9 10 4120 0 ∷ rel 9 6 4152 0 ∷ [])
+    (sym 2 (some 21) 55 text ∷ [])
+    (fun 2 1 0 0 0 0 ∷ fun 3 5 4096 4096 0 0 ∷ [])
+    (rel 3 2 4128 64 ∷ [])
     (insn 149 0 0 (pos 0) (pos 0) ∷ insn 149 0 0 (pos 0) (pos 0) ∷ insn 149 0 0 (pos 0) (pos 0) ∷ insn 149 0 0 (pos 0) (pos 0) ∷ insn 149 0 0 (pos 0) (pos 0) ∷ insn 149 0 0 (pos 0) (pos 0) ∷ [])
     []
     [])
-    (0 ∷ 0 ∷ []) (0 ∷ 0 ∷ [])
-    (map-row 20 none (pos 40) false ∷ []) 9 4144
-    -- 5, kind Text; 5, a map has the section: map step: ours 5, the crate goes on; its link: UnknownFunction
-    ∷ steps (tables
-    []
-    (sym 1 (some 20) 17 text ∷ [])
-    (fun 3 2 0 0 0 0 ∷ [])
-    (rel 3 1 0 0 ∷ [])
-    (insn 149 0 0 (pos 0) (pos 0) ∷ insn 149 0 0 (pos 0) (pos 0) ∷ [])
-    []
-    [])
-    (0 ∷ []) (0 ∷ [])
-    (map-row 20 none (pos 17) true ∷ []) 3 0
-    -- 5, kind Text; 5, a map has the section: map step: ours 5, the crate goes on; its link: accepts
-    ∷ steps (tables
-    []
-    (sym 3 (some 20) 31 text ∷ [])
-    (fun 2 3 4096 4096 0 0 ∷ fun 3 1 1048576 0 0 0 ∷ [])
-    (rel 2 3 4104 64 ∷ [])
-    (insn 149 0 0 (pos 0) (pos 0) ∷ insn 149 0 0 (pos 0) (pos 0) ∷ insn 149 0 0 (pos 0) (pos 0) ∷ insn 149 0 0 (pos 0) (pos 0) ∷ [])
-    []
-    [])
-    (0 ∷ 0 ∷ []) (0 ∷ 0 ∷ [])
-    (map-row 20 none (pos 779470927) true ∷ []) 3 1048576
-    -- 5, kind Text; 5, a map has the section: map step: ours 5, the crate goes on; its link: panics
-    ∷ steps (tables
-    (2 ∷ [])
-    (sym 3 (some 20) 7 text ∷ sym 6 (some 2) 0 other ∷ [])
-    (fun 2 4 0 0 0 0 ∷ [])
-    (rel 2 6 0 64 ∷ rel 2 3 16 0 ∷ [])
-    (insn 149 0 0 (pos 0) (pos 0) ∷ insn 149 0 0 (pos 0) (pos 0) ∷ insn 149 0 0 (pos 0) (pos 0) ∷ insn 149 0 0 (pos 0) (pos 0) ∷ [])
-    []
-    [])
-    (0 ∷ []) (0 ∷ [])
-    (map-row 20 none (pos 39) true ∷ []) 2 0
-    ∷ [])
-    ≡ (
-    (leaves (insn 149 0 0 (pos 0) (pos 0) ∷ insn 149 0 2 (pos 0) (pos 58) ∷ insn 149 0 0 (pos 0) (pos 0) ∷ []) ∷ gives (insn 149 0 0 (pos 0) (pos 0) ∷ insn 149 0 2 (pos 0) (pos 58) ∷ insn 149 0 0 (pos 0) (pos 0) ∷ []) [] 0 [] 0 ∷ [])
-    ∷ (leaves (insn 149 0 0 (pos 0) (pos 0) ∷ insn 149 0 2 (pos 0) (pos 1192617515) ∷ insn 149 0 0 (pos 0) (pos 12) ∷ insn 149 0 0 (pos 0) (pos 0) ∷ []) ∷ panicked ∷ [])
-    ∷ (panicked ∷ panicked ∷ [])
-    ∷ (errs section-not-found ∷ errs section-not-found ∷ [])
-    ∷ (leaves (insn 149 0 0 (pos 0) (pos 0) ∷ insn 149 0 1 (pos 0) (pos 65) ∷ []) ∷ errs unknown-function ∷ [])
-    ∷ (leaves (insn 149 0 0 (pos 0) (pos 0) ∷ insn 149 0 1 (pos 0) (negsuc 0) ∷ []) ∷ gives (insn 149 0 0 (pos 0) (pos 0) ∷ []) [] 0 [] 0 ∷ [])
-    ∷ (errs section-not-found ∷ errs section-not-found ∷ [])
-    ∷ (leaves (insn 149 0 2 (pos 0) (pos 17) ∷ insn 149 0 0 (pos 0) (pos 17) ∷ []) ∷ errs unknown-function ∷ [])
-    ∷ (leaves (insn 149 0 0 (pos 0) (pos 0) ∷ insn 149 0 2 (pos 0) (pos 779470927) ∷ insn 149 0 0 (pos 0) (pos 31) ∷ insn 149 0 0 (pos 0) (pos 0) ∷ []) ∷ gives (insn 149 0 0 (pos 0) (pos 0) ∷ []) [] 0 [] 0 ∷ [])
-    ∷ (leaves (insn 149 0 0 (pos 0) (pos 0) ∷ insn 149 0 0 (pos 0) (pos 0) ∷ insn 149 0 2 (pos 0) (pos 39) ∷ insn 149 0 0 (pos 0) (pos 7) ∷ []) ∷ panicked ∷ [])
-    ∷ [])
-unfolding signed u32 u64 i32 add-u64 mul-u64 add-u32 sub-u32 add-i32 sub-i32 insn-is-call relocate-map relocate-maps relocate-functions object-relocate-maps slot-of relocate-from relocate link-new Crate.link relocate-calls crateOf both-steps
-vectors-2 = refl
-
-vectors-3 : (
-    -- 5, kind Text; a map without symbol not alone:
-    steps (tables
-    []
-    (sym 2 (some 21) 2147483649 text ∷ [])
-    (fun 3 3 34357645304 4096 0 0 ∷ [])
-    (rel 3 2 4112 0 ∷ [])
-    (insn 149 0 0 (pos 0) (pos 0) ∷ insn 149 0 0 (pos 0) (pos 0) ∷ insn 149 0 0 (pos 0) (pos 0) ∷ [])
-    []
-    [])
-    (0 ∷ []) (0 ∷ [])
-    (map-row 20 none (negsuc 0) false ∷ map-row 20 (some 112) (pos 606) true ∷ []) 3 34357645304
+    (0 ∷ 976533827 ∷ []) (0 ∷ 2508087988 ∷ [])
+    (map-row 33 (some 2) (pos 41) false ∷ []) 2 0
     -- 6 in the link: link: ours 6, the crate UnknownFunction
     ∷ steps (tables
-    (2 ∷ [])
-    (sym 2 (some 2) 8193 section ∷ [])
-    (fun 2 4 8192 8192 0 0 ∷ [])
-    (rel 2 2 8216 64 ∷ [])
-    (insn 149 0 0 (pos 0) (pos 0) ∷ insn 149 0 0 (pos 0) (pos 0) ∷ insn 149 0 0 (pos 0) (pos 0) ∷ insn 149 0 0 (pos 0) (pos 0) ∷ [])
+    (4 ∷ [])
+    (sym 0 (some 4) 8154 section ∷ [])
+    (fun 4 3 8192 8192 0 0 ∷ [])
+    (rel 4 0 8208 64 ∷ [])
+    (insn 149 0 0 (pos 0) (pos 0) ∷ insn 149 0 0 (pos 0) (pos 0) ∷ insn 149 0 0 (pos 0) (pos 0) ∷ [])
     []
     [])
     (0 ∷ []) (0 ∷ [])
-    [] 2 8192
+    [] 4 8192
     -- 6 in the link: link: ours 6, the crate accepts
     ∷ steps (tables
-    (1 ∷ [])
-    (sym 3 (some 1) 2101248 text ∷ [])
-    (fun 1 1 2101248 4096 0 0 ∷ [])
-    (rel 1 3 4096 0 ∷ [])
-    (insn 149 0 0 (pos 0) (pos 0) ∷ [])
-    []
-    [])
-    (0 ∷ []) (0 ∷ [])
-    [] 1 2101248
-    -- 6 in the link; top immediate in a call: link: ours 6, the crate UnknownFunction
-    ∷ steps (tables
     (3 ∷ [])
-    (sym 6 (some 3) 32 text ∷ [])
-    (fun 3 2 0 0 0 0 ∷ fun 3 2 32 32 0 0 ∷ [])
-    (rel 3 6 8 64 ∷ [])
-    (insn 149 0 0 (pos 0) (pos 0) ∷ insn 149 0 0 (pos 0) (pos 0) ∷ insn 149 0 0 (pos 0) (pos 0) ∷ insn 133 0 1 (pos 0) (pos 2147483647) ∷ [])
-    []
-    [])
-    (0 ∷ 0 ∷ []) (0 ∷ 0 ∷ [])
-    [] 3 0
-    -- 6 in the link; top immediate in a call: link: ours 6, the crate accepts
-    ∷ steps (tables
-    (4 ∷ [])
-    (sym 9 (some 4) 549752684336 section ∷ [])
-    (fun 4 1 549752676344 8192 0 0 ∷ fun 4 3 549752676360 8208 0 0 ∷ [])
-    (rel 4 9 8208 32 ∷ rel 4 9 8224 64 ∷ [])
-    (insn 133 0 1 (pos 0) (pos 2147483647) ∷ insn 133 0 1 (pos 0) (negsuc 997) ∷ insn 149 0 0 (pos 0) (pos 0) ∷ insn 183 8 0 (pos 9) (negsuc 7975) ∷ [])
-    []
-    [])
-    (0 ∷ 0 ∷ []) (0 ∷ 0 ∷ [])
-    [] 4 549752676360
-    -- 6 in the map step: map step: ours 6, the crate SectionNotFound
-    ∷ steps (tables
-    []
-    (sym 2 (some 21) 12 other ∷ sym 8 (some 2) 1 section ∷ [])
-    (fun 2 4 0 0 0 0 ∷ fun 2 2 40 40 0 0 ∷ [])
-    (rel 2 2 16 64 ∷ rel 2 8 48 64 ∷ [])
-    (insn 149 0 0 (pos 0) (pos 0) ∷ insn 149 0 0 (pos 0) (pos 0) ∷ insn 149 0 0 (pos 0) (pos 0) ∷ insn 149 0 0 (pos 0) (pos 0) ∷ insn 149 0 0 (pos 0) (pos 0) ∷ insn 149 0 0 (pos 0) (pos 0) ∷ [])
-    []
-    [])
-    (0 ∷ 0 ∷ []) (0 ∷ 0 ∷ [])
-    (map-row 21 (some 2) (negsuc 651402514) true ∷ []) 2 40
-    -- 6 in the map step: map step: ours 6, the crate UnknownSymbol
-    ∷ steps (tables
-    []
-    (sym 0 (some 20) 10 other ∷ [])
-    (fun 1 2 4096 4096 0 0 ∷ fun 1 6 4120 4120 0 0 ∷ [])
-    (rel 1 0 4096 0 ∷ rel 1 9 4160 32 ∷ [])
-    (insn 149 0 0 (pos 0) (pos 0) ∷ insn 149 0 0 (pos 0) (pos 0) ∷ insn 149 0 0 (pos 0) (pos 0) ∷ insn 149 0 0 (pos 0) (pos 0) ∷ insn 149 0 0 (pos 0) (pos 0) ∷ insn 149 0 0 (pos 0) (pos 0) ∷ insn 149 0 0 (pos 0) (pos 0) ∷ insn 149 0 0 (pos 0) (pos 0) ∷ [])
-    []
-    [])
-    (0 ∷ 0 ∷ []) (0 ∷ 0 ∷ [])
-    (map-row 20 none (negsuc 0) true ∷ []) 1 4096
-    -- 6 in the map step: map step: ours 6, the crate goes on; its link: UnknownFunction
-    ∷ steps (tables
-    []
-    (sym 3 (some 21) 52 other ∷ [])
-    (fun 1 3 0 0 0 0 ∷ [])
-    (rel 1 3 16 64 ∷ [])
-    (insn 149 0 0 (pos 0) (pos 0) ∷ insn 133 0 1 (pos 0) (pos 38) ∷ insn 149 0 0 (pos 0) (pos 0) ∷ [])
-    []
-    [])
-    (0 ∷ []) (0 ∷ [])
-    (map-row 21 (some 3) (pos 57) false ∷ []) 1 0
-    -- 6 in the map step: map step: ours 6, the crate goes on; its link: accepts
-    ∷ steps (tables
-    []
-    (sym 2 (some 20) 44 section ∷ [])
-    (fun 4 2 4096 4096 0 0 ∷ [])
-    (rel 4 2 4104 0 ∷ [])
-    (insn 149 0 0 (pos 0) (pos 0) ∷ insn 149 0 0 (pos 0) (pos 0) ∷ [])
-    []
-    [])
-    (0 ∷ []) (0 ∷ [])
-    (map-row 20 none (negsuc 1734779133) false ∷ []) 4 4096
-    -- 6 in the map step: map step: ours 6, the crate goes on; its link: panics
-    ∷ steps (tables
-    (4 ∷ [])
-    (sym 2 (some 20) 2 other ∷ sym 5 (some 4) 8796091981619 section ∷ [])
-    (fun 4 3 8796091973627 0 0 0 ∷ [])
-    (rel 4 5 8 31 ∷ rel 4 2 16 64 ∷ [])
-    (insn 149 0 0 (pos 0) (pos 0) ∷ insn 149 0 0 (pos 0) (pos 0) ∷ insn 149 0 0 (pos 0) (pos 0) ∷ [])
-    []
-    [])
-    (0 ∷ []) (0 ∷ [])
-    (map-row 20 none (pos 48) false ∷ []) 4 8796091973627
-    ∷ [])
-    ≡ (
-    (errs section-not-found ∷ errs section-not-found ∷ [])
-    ∷ (leaves (insn 149 0 0 (pos 0) (pos 0) ∷ insn 149 0 0 (pos 0) (pos 0) ∷ insn 149 0 0 (pos 0) (pos 0) ∷ insn 149 0 0 (pos 0) (pos 0) ∷ []) ∷ errs unknown-function ∷ [])
-    ∷ (leaves (insn 149 0 0 (pos 0) (pos 0) ∷ []) ∷ gives (insn 149 0 4 (pos 0) (pos 0) ∷ insn 149 0 4 (pos 0) (negsuc 0) ∷ []) [] 0 [] 0 ∷ [])
-    ∷ (leaves (insn 149 0 0 (pos 0) (pos 0) ∷ insn 149 0 0 (pos 0) (pos 0) ∷ insn 149 0 0 (pos 0) (pos 0) ∷ insn 133 0 1 (pos 0) (pos 2147483647) ∷ []) ∷ errs unknown-function ∷ [])
-    ∷ (leaves (insn 133 0 1 (pos 0) (pos 2147483647) ∷ insn 133 0 1 (pos 0) (negsuc 997) ∷ insn 149 0 0 (pos 0) (pos 0) ∷ insn 183 8 0 (pos 9) (negsuc 7975) ∷ []) ∷ gives (insn 133 0 1 (pos 0) (pos 2) ∷ insn 149 0 0 (pos 0) (pos 0) ∷ insn 183 8 4 (pos 9) (pos 0) ∷ insn 133 0 1 (pos 0) (negsuc 0) ∷ insn 149 0 0 (pos 0) (pos 0) ∷ insn 183 8 4 (pos 9) (negsuc 2) ∷ []) [] 0 [] 0 ∷ [])
-    ∷ (errs section-not-found ∷ errs section-not-found ∷ [])
-    ∷ (errs unknown-symbol ∷ errs unknown-symbol ∷ [])
-    ∷ (leaves (insn 149 0 0 (pos 0) (pos 0) ∷ insn 133 0 1 (pos 0) (pos 38) ∷ insn 149 0 1 (pos 0) (pos 57) ∷ []) ∷ errs unknown-function ∷ [])
-    ∷ (leaves (insn 149 0 0 (pos 0) (pos 0) ∷ insn 149 0 1 (pos 0) (negsuc 1734779133) ∷ []) ∷ gives (insn 149 0 0 (pos 0) (pos 0) ∷ insn 149 0 1 (pos 0) (negsuc 1734779133) ∷ []) [] 0 [] 0 ∷ [])
-    ∷ (leaves (insn 149 0 0 (pos 0) (pos 0) ∷ insn 149 0 0 (pos 0) (pos 0) ∷ insn 149 0 1 (pos 0) (pos 48) ∷ []) ∷ panicked ∷ [])
-    ∷ [])
-unfolding signed u32 u64 i32 add-u64 mul-u64 add-u32 sub-u32 add-i32 sub-i32 insn-is-call relocate-map relocate-maps relocate-functions object-relocate-maps slot-of relocate-from relocate link-new Crate.link relocate-calls crateOf both-steps
-vectors-3 = refl
-
-vectors-4 : (
-    -- 6 in the map step: map step: ours 6, the crate panics
-    steps (tables
-    []
-    (sym 0 (some 20) 19 section ∷ [])
-    (fun 3 1 2101248 4096 0 0 ∷ [])
-    (rel 3 0 4096 64 ∷ [])
-    (insn 149 0 0 (pos 0) (pos 0) ∷ [])
-    []
-    [])
-    (0 ∷ []) (0 ∷ [])
-    (map-row 20 none (pos 87) true ∷ []) 3 2101248
-    -- 6 in the map step; a map without symbol not alone: map step: ours 6, the crate UnknownSymbol
-    ∷ steps (tables
-    []
-    (sym 3 (some 20) 54 section ∷ [])
-    (fun 2 2 8796091973624 0 0 0 ∷ fun 2 1 8796091973640 16 0 0 ∷ [])
-    (rel 2 3 0 32 ∷ rel 2 12 16 64 ∷ [])
-    (insn 149 0 0 (pos 0) (pos 0) ∷ insn 149 0 0 (pos 0) (pos 0) ∷ insn 149 0 0 (pos 0) (pos 0) ∷ [])
-    []
-    [])
-    (0 ∷ 0 ∷ []) (0 ∷ 0 ∷ [])
-    (map-row 20 none (pos 44) false ∷ map-row 20 (some 112) (pos 606) true ∷ []) 2 8796091973640
-    -- 6 in the map step; a map without symbol not alone: map step: ours 6, the crate goes on; its link: UnknownFunction
-    ∷ steps (tables
-    []
-    (sym 0 (some 20) 19 other ∷ [])
-    (fun 4 1 0 0 0 0 ∷ fun 4 1 17179869184 17179869184 0 0 ∷ [])
-    (rel 4 0 17179869184 64 ∷ [])
-    (insn 133 0 1 (pos 0) (pos 2147483647) ∷ insn 149 0 0 (pos 0) (pos 0) ∷ [])
-    []
-    [])
-    (0 ∷ 0 ∷ []) (0 ∷ 0 ∷ [])
-    (map-row 21 (some 4) (negsuc 1181688005) true ∷ map-row 20 none (pos 96) true ∷ map-row 20 (some 121) (pos 606) false ∷ []) 4 0
-    -- 6 in the map step; a map without symbol not alone: map step: ours 6, the crate goes on; its link: accepts
-    ∷ steps (tables
-    []
-    (sym 4 (some 20) 35 section ∷ [])
-    (fun 2 2 137437904888 0 0 0 ∷ [])
-    (rel 2 4 0 64 ∷ [])
-    (insn 149 0 0 (pos 0) (pos 0) ∷ insn 149 0 0 (pos 0) (pos 0) ∷ [])
-    []
-    [])
-    (0 ∷ []) (0 ∷ [])
-    (map-row 20 none (negsuc 0) false ∷ map-row 20 (some 114) (pos 606) true ∷ []) 2 137437904888
-    -- 6 in the map step; a map without symbol not alone: map step: ours 6, the crate panics
-    ∷ steps (tables
-    []
-    (sym 2 (some 21) 57 other ∷ [])
-    (fun 1 1 1048576 0 0 0 ∷ [])
-    (rel 1 2 0 64 ∷ [])
-    (insn 149 0 0 (pos 0) (pos 0) ∷ [])
-    []
-    [])
-    (0 ∷ []) (0 ∷ [])
-    (map-row 20 none (negsuc 0) false ∷ map-row 21 (some 2) (negsuc 0) true ∷ map-row 20 (some 114) (pos 606) true ∷ []) 1 1048576
-    -- 7: value outside i32: map step: ours 7, the crate goes on; its link: accepts
-    ∷ steps (tables
-    []
-    (sym 1 (some 20) 2147483649 section ∷ [])
-    (fun 3 2 0 0 0 0 ∷ [])
-    (rel 3 1 0 0 ∷ [])
-    (insn 24 1 0 (pos 0) (pos 2147483646) ∷ insn 0 0 0 (pos 0) (pos 0) ∷ [])
-    []
-    [])
-    (0 ∷ []) (0 ∷ [])
-    (map-row 20 none (negsuc 0) true ∷ []) 3 0
-    -- 8: form unknown: link: ours 8, the crate panics
-    ∷ steps (tables
-    (3 ∷ [])
-    (sym 0 (some 3) 4096 other ∷ [])
+    (sym 2 (some 3) 4096 text ∷ [])
     (fun 3 1 4096 4096 0 0 ∷ [])
-    (rel 3 0 4096 64 ∷ [])
+    (rel 3 2 4096 64 ∷ [])
     (insn 149 0 0 (pos 0) (pos 0) ∷ [])
     []
     [])
     (0 ∷ []) (0 ∷ [])
     [] 3 4096
-    -- 8: form unknown; top immediate in a call: link: ours 8, the crate UnknownFunction
+    -- 6 in the link: link: ours 6, the crate panics
     ∷ steps (tables
-    (4 ∷ [])
-    (sym 3 (some 4) 0 other ∷ [])
-    (fun 4 2 0 0 0 0 ∷ fun 4 1 17179869184 17179869184 0 0 ∷ [])
-    (rel 4 3 8 64 ∷ [])
-    (insn 133 0 1 (pos 0) (pos 2147483647) ∷ insn 149 0 0 (pos 0) (pos 0) ∷ insn 149 0 0 (pos 0) (pos 0) ∷ [])
+    (3 ∷ [])
+    (sym 6 (some 3) 0 other ∷ sym 8 (some 3) 0 text ∷ [])
+    (fun 3 3 0 0 0 0 ∷ fun 4 1 0 0 0 0 ∷ [])
+    (rel 3 6 16 33 ∷ rel 4 8 0 32 ∷ [])
+    (insn 149 0 0 (pos 0) (pos 0) ∷ insn 149 0 0 (pos 0) (pos 0) ∷ insn 149 0 0 (pos 0) (pos 0) ∷ insn 149 0 0 (pos 0) (pos 0) ∷ [])
     []
     [])
     (0 ∷ 0 ∷ []) (0 ∷ 0 ∷ [])
     [] 4 0
-    -- 8: form unknown; top immediate in a call: link: ours 8, the crate panics
+    -- 6 in the map step: map step: ours 6, the crate InvalidRelocationOffset
     ∷ steps (tables
-    (1 ∷ [])
-    (sym 7 (some 1) 2101222 section ∷ [])
-    (fun 1 1 2101248 4096 0 0 ∷ [])
-    (rel 1 7 4096 31 ∷ [])
-    (insn 133 0 1 (pos 0) (pos 2147483647) ∷ [])
+    []
+    (sym 2 (some 21) 31 other ∷ [])
+    (fun 3 4 1048576 0 0 0 ∷ fun 3 3 1048608 32 0 0 ∷ [])
+    (rel 3 2 16 0 ∷ rel 3 6 49 64 ∷ [])
+    (insn 149 0 0 (pos 0) (pos 0) ∷ insn 149 0 0 (pos 0) (pos 0) ∷ insn 149 0 0 (pos 0) (pos 0) ∷ insn 149 0 0 (pos 0) (pos 0) ∷ insn 149 0 0 (pos 0) (pos 0) ∷ insn 149 0 0 (pos 0) (pos 0) ∷ insn 149 0 0 (pos 0) (pos 0) ∷ [])
     []
     [])
-    (0 ∷ []) (0 ∷ [])
-    [] 1 2101248
-    -- 8: form unknown; top immediate, size-32 reference: link: ours 8, the crate panics
+    (0 ∷ 3929895238 ∷ []) (0 ∷ 3776159335 ∷ [])
+    (map-row 21 (some 2) (pos 149802369) true ∷ []) 3 1048576
+    -- 6 in the map step: map step: ours 6, the crate SectionNotFound
     ∷ steps (tables
-    (4 ∷ [])
-    (sym 1 (some 4) 1072693240 other ∷ [])
-    (fun 4 3 1072693240 0 0 0 ∷ [])
-    (rel 4 1 16 32 ∷ [])
-    (insn 149 0 0 (pos 0) (pos 0) ∷ insn 149 0 0 (pos 0) (pos 0) ∷ insn 24 1 0 (pos 0) (pos 2147483647) ∷ [])
+    []
+    (sym 5 (some 20) 43 section ∷ sym 19 (some 65535) 62 other ∷ [])
+    (fun 3 2 0 0 0 0 ∷ fun 3 3 8 8 0 0 ∷ [])
+    (rel 3 5 8 64 ∷ rel 3 19 24 64 ∷ [])
+    (insn 149 0 0 (pos 0) (pos 0) ∷ insn 149 0 0 (pos 0) (pos 0) ∷ insn 149 0 0 (pos 0) (pos 0) ∷ insn 149 0 0 (pos 0) (pos 0) ∷ insn 149 0 0 (pos 0) (pos 0) ∷ [])
     []
     [])
-    (0 ∷ []) (0 ∷ [])
-    [] 4 1072693240
+    (0 ∷ 0 ∷ []) (0 ∷ 0 ∷ [])
+    (map-row 20 none (pos 69) false ∷ []) 3 0
     ∷ [])
     ≡ (
-    (panicked ∷ panicked ∷ [])
-    ∷ (errs unknown-symbol ∷ errs unknown-symbol ∷ [])
-    ∷ (leaves (insn 133 0 1 (pos 0) (pos 2147483647) ∷ insn 149 0 1 (pos 0) (pos 606) ∷ []) ∷ errs unknown-function ∷ [])
-    ∷ (leaves (insn 149 0 2 (pos 0) (pos 606) ∷ insn 149 0 0 (pos 0) (pos 35) ∷ []) ∷ gives (insn 149 0 2 (pos 0) (pos 606) ∷ insn 149 0 0 (pos 0) (pos 35) ∷ []) [] 0 [] 0 ∷ [])
+    (leaves (insn 149 0 0 (pos 0) (pos 0) ∷ insn 149 0 0 (pos 0) (pos 0) ∷ insn 149 0 0 (pos 0) (pos 0) ∷ insn 149 0 0 (pos 0) (pos 0) ∷ insn 149 0 1 (pos 0) (negsuc 0) ∷ []) ∷ panicked ∷ [])
     ∷ (panicked ∷ panicked ∷ [])
-    ∷ (leaves (insn 24 1 2 (pos 0) (negsuc 0) ∷ insn 0 0 0 (pos 0) (negsuc 0) ∷ []) ∷ gives (insn 24 1 2 (pos 0) (negsuc 0) ∷ insn 0 0 0 (pos 0) (negsuc 0) ∷ []) [] 0 [] 0 ∷ [])
+    ∷ (errs section-not-found ∷ errs section-not-found ∷ [])
+    ∷ (leaves (insn 149 0 0 (pos 0) (pos 0) ∷ insn 149 0 2 (pos 0) (pos 89) ∷ insn 149 0 0 (pos 0) (pos 32) ∷ []) ∷ errs unknown-function ∷ [])
+    ∷ (leaves (insn 149 0 0 (pos 0) (pos 0) ∷ insn 149 0 0 (pos 0) (pos 0) ∷ insn 149 0 0 (pos 0) (pos 0) ∷ insn 149 0 0 (pos 0) (pos 0) ∷ insn 149 0 0 (pos 0) (pos 0) ∷ insn 149 0 1 (pos 0) (pos 41) ∷ []) ∷ gives (insn 149 0 0 (pos 0) (pos 0) ∷ []) [] 0 [] 0 ∷ [])
+    ∷ (leaves (insn 149 0 0 (pos 0) (pos 0) ∷ insn 149 0 0 (pos 0) (pos 0) ∷ insn 149 0 0 (pos 0) (pos 0) ∷ []) ∷ errs unknown-function ∷ [])
+    ∷ (leaves (insn 149 0 0 (pos 0) (pos 0) ∷ []) ∷ gives (insn 149 0 4 (pos 0) (pos 0) ∷ insn 149 0 4 (pos 0) (negsuc 0) ∷ []) [] 0 [] 0 ∷ [])
+    ∷ (leaves (insn 149 0 0 (pos 0) (pos 0) ∷ insn 149 0 0 (pos 0) (pos 0) ∷ insn 149 0 0 (pos 0) (pos 0) ∷ insn 149 0 0 (pos 0) (pos 0) ∷ []) ∷ panicked ∷ [])
+    ∷ (errs invalid-relocation-offset ∷ errs invalid-relocation-offset ∷ [])
+    ∷ (errs section-not-found ∷ errs section-not-found ∷ [])
+    ∷ [])
+unfolding signed u32 u64 i32 add-u64 mul-u64 add-u32 sub-u32 add-i32 sub-i32 insn-is-call relocate-map relocate-maps relocate-functions object-relocate-maps slot-of relocate-from relocate link-new Crate.link relocate-calls crateOf both-steps
+vectors-2 = refl
+
+vectors-3 : (
+    -- 6 in the map step: map step: ours 6, the crate UnknownSymbol
+    steps (tables
+    []
+    (sym 1 (some 21) 29 other ∷ [])
+    (fun 1 1 8796090929144 8778911059968 0 0 ∷ fun 1 1 8796090929160 8796090929160 0 0 ∷ fun 1 2 8796090929168 4120 0 0 ∷ [])
+    (rel 1 11 4128 32 ∷ rel 1 1 8796090929160 64 ∷ [])
+    (insn 149 0 0 (pos 0) (pos 0) ∷ insn 149 0 0 (pos 0) (pos 0) ∷ insn 149 0 0 (pos 0) (pos 0) ∷ insn 149 0 0 (pos 0) (pos 0) ∷ [])
+    []
+    [])
+    (0 ∷ 0 ∷ 0 ∷ []) (0 ∷ 0 ∷ 0 ∷ [])
+    (map-row 21 (some 1) (pos 6) false ∷ []) 1 8796090929144
+    -- 6 in the map step: map step: ours 6, the crate goes on; its link: UnknownFunction
+    ∷ steps (tables
+    []
+    (sym 1 (some 20) 9 section ∷ [])
+    (fun 4 3 0 0 0 0 ∷ [])
+    (rel 4 1 8 64 ∷ [])
+    (insn 149 0 0 (pos 0) (pos 0) ∷ insn 149 0 0 (pos 0) (pos 0) ∷ insn 133 0 1 (pos 0) (negsuc 0) ∷ [])
+    []
+    [])
+    (0 ∷ []) (0 ∷ [])
+    (map-row 20 none (negsuc 63985737) false ∷ []) 4 0
+    -- 6 in the map step: map step: ours 6, the crate goes on; its link: accepts
+    ∷ steps (tables
+    []
+    (sym 2 (some 20) 36 section ∷ [])
+    (fun 3 2 4096 4096 0 0 ∷ [])
+    (rel 3 2 4104 64 ∷ [])
+    (insn 149 0 0 (pos 0) (pos 0) ∷ insn 149 0 0 (pos 0) (pos 0) ∷ [])
+    []
+    [])
+    (0 ∷ []) (0 ∷ [])
+    (map-row 20 none (negsuc 0) false ∷ []) 3 4096
+    -- 6 in the map step: map step: ours 6, the crate goes on; its link: panics
+    ∷ steps (tables
+    (3 ∷ [])
+    (sym 0 (some 21) 7 other ∷ sym 5 (some 3) 2101248 other ∷ [])
+    (fun 3 3 2101248 4096 0 0 ∷ [])
+    (rel 3 5 4104 64 ∷ rel 3 0 4112 64 ∷ [])
+    (insn 149 0 0 (pos 0) (pos 0) ∷ insn 149 0 0 (pos 0) (pos 0) ∷ insn 149 0 0 (pos 0) (pos 0) ∷ [])
+    []
+    [])
+    (0 ∷ []) (0 ∷ [])
+    (map-row 21 (some 0) (pos 55) false ∷ []) 3 2101248
+    -- 6 in the map step: map step: ours 6, the crate panics
+    ∷ steps (tables
+    []
+    (sym 0 (some 20) 33 other ∷ [])
+    (fun 3 1 0 0 0 0 ∷ [])
+    (rel 3 0 0 64 ∷ [])
+    (insn 149 0 0 (pos 0) (pos 0) ∷ [])
+    []
+    [])
+    (0 ∷ []) (0 ∷ [])
+    (map-row 20 none (pos 50) true ∷ []) 3 0
+    -- 7: value outside i32: map step: ours 7, the crate InvalidRelocationOffset
+    ∷ steps (tables
+    []
+    (sym 4 (some 21) 2147483648 other ∷ [])
+    (fun 1 2 8588886008 0 0 0 ∷ fun 2 4 549753720824 4096 0 0 ∷ [])
+    (rel 1 4 0 64 ∷ rel 2 1 4127 64 ∷ [])
+    (insn 24 1 0 (pos 0) (pos 2147483647) ∷ insn 0 0 0 (pos 0) (pos 3) ∷ insn 149 0 0 (pos 0) (pos 0) ∷ insn 149 0 0 (pos 0) (pos 0) ∷ insn 149 0 0 (pos 0) (pos 0) ∷ insn 149 0 0 (pos 0) (pos 0) ∷ [])
+    []
+    [])
+    (0 ∷ 0 ∷ []) (0 ∷ 0 ∷ [])
+    (map-row 33 (some 4) (negsuc 0) true ∷ []) 2 549753720824
+    -- 7: value outside i32: map step: ours 7, the crate UnknownSymbol
+    ∷ steps (tables
+    []
+    (sym 2 (some 21) 549755813898 other ∷ [])
+    (fun 3 3 2101248 4096 0 0 ∷ fun 4 3 0 0 0 0 ∷ [])
+    (rel 3 2 4104 64 ∷ rel 4 22 16 0 ∷ [])
+    (insn 149 0 0 (pos 0) (pos 0) ∷ insn 24 4 0 (pos 0) (pos 38) ∷ insn 0 0 0 (pos 0) (pos 0) ∷ insn 149 0 0 (pos 0) (pos 0) ∷ insn 149 0 0 (pos 0) (pos 0) ∷ insn 149 0 0 (pos 0) (pos 0) ∷ [])
+    []
+    [])
+    (0 ∷ 0 ∷ []) (0 ∷ 0 ∷ [])
+    (map-row 21 (some 2) (pos 17) true ∷ []) 4 0
+    -- 7: value outside i32: map step: ours 7, the crate goes on; its link: UnknownFunction
+    ∷ steps (tables
+    []
+    (sym 6 (some 21) 2147483648 other ∷ [])
+    (fun 1 3 0 0 0 0 ∷ [])
+    (rel 1 6 0 0 ∷ [])
+    (insn 24 1 0 (pos 0) (pos 2147483646) ∷ insn 0 0 0 (pos 0) (pos 3) ∷ insn 133 0 1 (pos 0) (pos 2147483646) ∷ [])
+    []
+    [])
+    (0 ∷ []) (0 ∷ [])
+    (map-row 21 (some 6) (pos 37) true ∷ []) 1 0
+    -- 7: value outside i32: map step: ours 7, the crate goes on; its link: accepts
+    ∷ steps (tables
+    []
+    (sym 1 (some 20) 2147483648 section ∷ [])
+    (fun 3 4 8192 8192 0 0 ∷ [])
+    (rel 3 1 8208 0 ∷ [])
+    (insn 149 0 0 (pos 0) (pos 0) ∷ insn 149 0 0 (pos 0) (pos 0) ∷ insn 24 1 0 (pos 0) (pos 2147483646) ∷ insn 0 0 0 (pos 0) (pos 0) ∷ [])
+    []
+    [])
+    (0 ∷ []) (0 ∷ [])
+    (map-row 20 none (pos 215077187) true ∷ []) 3 8192
+    -- 7: value outside i32: map step: ours 7, the crate goes on; its link: panics
+    ∷ steps (tables
+    (4 ∷ [])
+    (sym 2 (some 20) 1099511627776 other ∷ sym 6 (some 2) 0 text ∷ sym 11 (some 4) 8155 section ∷ [])
+    (fun 2 5 0 0 0 0 ∷ [])
+    (rel 2 2 0 64 ∷ rel 2 6 16 64 ∷ rel 2 11 32 80 ∷ [])
+    (insn 24 1 0 (pos 0) (negsuc 0) ∷ insn 0 0 0 (pos 0) (pos 0) ∷ insn 133 0 1 (pos 0) (negsuc 2147483647) ∷ insn 149 0 0 (pos 0) (pos 0) ∷ insn 149 0 0 (pos 0) (pos 0) ∷ [])
+    []
+    [])
+    (0 ∷ []) (0 ∷ [])
+    (map-row 20 none (pos 95) true ∷ []) 2 0
+    ∷ [])
+    ≡ (
+    (errs unknown-symbol ∷ errs unknown-symbol ∷ [])
+    ∷ (leaves (insn 149 0 0 (pos 0) (pos 0) ∷ insn 149 0 1 (pos 0) (negsuc 63985737) ∷ insn 133 0 1 (pos 0) (negsuc 0) ∷ []) ∷ errs unknown-function ∷ [])
+    ∷ (leaves (insn 149 0 0 (pos 0) (pos 0) ∷ insn 149 0 1 (pos 0) (negsuc 0) ∷ []) ∷ gives (insn 149 0 0 (pos 0) (pos 0) ∷ insn 149 0 1 (pos 0) (negsuc 0) ∷ []) [] 0 [] 0 ∷ [])
+    ∷ (leaves (insn 149 0 0 (pos 0) (pos 0) ∷ insn 149 0 0 (pos 0) (pos 0) ∷ insn 149 0 1 (pos 0) (pos 55) ∷ []) ∷ panicked ∷ [])
+    ∷ (panicked ∷ panicked ∷ [])
+    ∷ (errs invalid-relocation-offset ∷ errs invalid-relocation-offset ∷ [])
+    ∷ (errs unknown-symbol ∷ errs unknown-symbol ∷ [])
+    ∷ (leaves (insn 24 1 2 (pos 0) (pos 37) ∷ insn 0 0 0 (pos 0) (negsuc 1) ∷ insn 133 0 1 (pos 0) (pos 2147483646) ∷ []) ∷ errs unknown-function ∷ [])
+    ∷ (leaves (insn 149 0 0 (pos 0) (pos 0) ∷ insn 149 0 0 (pos 0) (pos 0) ∷ insn 24 1 2 (pos 0) (pos 215077187) ∷ insn 0 0 0 (pos 0) (negsuc 1) ∷ []) ∷ gives (insn 149 0 0 (pos 0) (pos 0) ∷ insn 149 0 0 (pos 0) (pos 0) ∷ insn 24 1 2 (pos 0) (pos 215077187) ∷ insn 0 0 0 (pos 0) (negsuc 1) ∷ []) [] 0 [] 0 ∷ [])
+    ∷ (leaves (insn 24 1 2 (pos 0) (pos 95) ∷ insn 0 0 0 (pos 0) (negsuc 0) ∷ insn 133 0 1 (pos 0) (negsuc 2147483647) ∷ insn 149 0 0 (pos 0) (pos 0) ∷ insn 149 0 0 (pos 0) (pos 0) ∷ []) ∷ panicked ∷ [])
+    ∷ [])
+unfolding signed u32 u64 i32 add-u64 mul-u64 add-u32 sub-u32 add-i32 sub-i32 insn-is-call relocate-map relocate-maps relocate-functions object-relocate-maps slot-of relocate-from relocate link-new Crate.link relocate-calls crateOf both-steps
+vectors-3 = refl
+
+vectors-4 : (
+    -- 8: form unknown (Text without a section): link: ours 8, the crate panics
+    steps (tables
+    []
+    (sym 2 none 3153920 text ∷ [])
+    (fun 9 1 3153920 8192 0 0 ∷ [])
+    (rel 9 2 8192 64 ∷ [])
+    (insn 149 0 0 (pos 0) (pos 0) ∷ [])
+    []
+    [])
+    (0 ∷ []) (0 ∷ [])
+    [] 9 3153920
+    -- 8: form unknown (a size): link: ours 8, the crate panics
+    ∷ steps (tables
+    (1 ∷ [])
+    (sym 0 (some 1) 1048552 section ∷ [])
+    (fun 1 1 1048576 0 0 0 ∷ [])
+    (rel 1 0 0 65 ∷ [])
+    (insn 149 0 0 (pos 0) (pos 0) ∷ [])
+    []
+    [])
+    (0 ∷ []) (0 ∷ [])
+    [] 1 1048576
+    -- 8: form unknown (another kind): link: ours 8, the crate panics
+    ∷ steps (tables
+    (1 ∷ [])
+    (sym 2 (some 1) 8192 other ∷ [])
+    (fun 1 2 8192 8192 0 0 ∷ [])
+    (rel 1 2 8200 64 ∷ [])
+    (insn 149 0 0 (pos 0) (pos 0) ∷ insn 149 0 0 (pos 0) (pos 0) ∷ [])
+    []
+    [])
+    (0 ∷ []) (0 ∷ [])
+    [] 1 8192
+    -- 9: call names no code: link: ours 9, the crate UnknownFunction
+    ∷ steps (tables
+    []
+    (sym 1 (some 20) 21 other ∷ [])
+    (fun 2 1 1048576 0 0 0 ∷ [])
+    (rel 2 1 0 32 ∷ [])
+    (insn 133 0 1 (pos 0) (negsuc 2147483647) ∷ [])
+    []
+    [])
+    (0 ∷ []) (0 ∷ [])
+    [] 2 1048576
+    -- 9: call names no code: link: ours 9, the crate accepts
+    ∷ steps (tables
+    []
+    (sym 2 none 25 other ∷ [])
+    (fun 2 1 2101248 4096 0 0 ∷ [])
+    (rel 2 2 4096 32 ∷ [])
+    (insn 133 0 1 (pos 0) (pos 262143) ∷ [])
+    []
+    [])
+    (0 ∷ []) (0 ∷ [])
+    [] 2 2101248
+    -- 9: call names no code: link: ours 9, the crate panics
+    ∷ steps (tables
+    (2 ∷ [])
+    (sym 2 none 3 section ∷ sym 3 (some 2) 1048536 other ∷ [])
+    (fun 2 3 1048576 0 0 0 ∷ [])
+    (rel 2 2 0 32 ∷ rel 2 3 16 64 ∷ [])
+    (insn 133 0 1 (pos 0) (pos 131071) ∷ insn 149 0 0 (pos 0) (pos 0) ∷ insn 149 0 0 (pos 0) (pos 0) ∷ [])
+    []
+    [])
+    (0 ∷ []) (0 ∷ [])
+    [] 2 1048576
+    -- a map without symbol not alone: equal all the same
+    ∷ steps (tables
+    []
+    []
+    (fun 1 1 4096 4096 0 0 ∷ [])
+    []
+    (insn 149 0 0 (pos 0) (pos 0) ∷ [])
+    []
+    [])
+    (0 ∷ []) (0 ∷ [])
+    (map-row 20 none (pos 74) false ∷ map-row 20 (some 105) (pos 606) true ∷ []) 1 4096
+    -- a map without symbol not alone: slots after the map step
+    ∷ steps (tables
+    []
+    (sym 2 (some 20) 20 section ∷ [])
+    (fun 3 2 4096 4096 0 0 ∷ [])
+    (rel 3 2 4096 64 ∷ [])
+    (insn 24 2 0 (pos 0) (pos 19) ∷ insn 0 0 0 (pos 0) (pos 0) ∷ [])
+    []
+    [])
+    (0 ∷ []) (0 ∷ [])
+    (map-row 20 none (pos 11) true ∷ map-row 20 (some 107) (pos 606) false ∷ []) 3 4096
+    -- calls without maps first: equal all the same
+    ∷ calls-alone (tables
+    []
+    []
+    (fun 3 1 0 0 0 0 ∷ [])
+    []
+    (insn 149 0 0 (pos 0) (pos 0) ∷ [])
+    []
+    [])
+    (0 ∷ []) (0 ∷ [])
+    [] 3 0
+    -- calls without maps first: link: ours 3, the crate UnknownFunction
+    ∷ calls-alone (tables
+    []
+    []
+    (fun 2 1 4096 4096 0 0 ∷ [])
+    (rel 2 6 4096 64 ∷ [])
+    (insn 133 0 1 (pos 0) (negsuc 76) ∷ [])
+    []
+    [])
+    (0 ∷ []) (0 ∷ [])
+    [] 2 4096
+    ∷ [])
+    ≡ (
+    (leaves (insn 149 0 0 (pos 0) (pos 0) ∷ []) ∷ panicked ∷ [])
     ∷ (leaves (insn 149 0 0 (pos 0) (pos 0) ∷ []) ∷ panicked ∷ [])
-    ∷ (leaves (insn 133 0 1 (pos 0) (pos 2147483647) ∷ insn 149 0 0 (pos 0) (pos 0) ∷ insn 149 0 0 (pos 0) (pos 0) ∷ []) ∷ errs unknown-function ∷ [])
-    ∷ (leaves (insn 133 0 1 (pos 0) (pos 2147483647) ∷ []) ∷ panicked ∷ [])
-    ∷ (leaves (insn 149 0 0 (pos 0) (pos 0) ∷ insn 149 0 0 (pos 0) (pos 0) ∷ insn 24 1 0 (pos 0) (pos 2147483647) ∷ []) ∷ panicked ∷ [])
+    ∷ (leaves (insn 149 0 0 (pos 0) (pos 0) ∷ insn 149 0 0 (pos 0) (pos 0) ∷ []) ∷ panicked ∷ [])
+    ∷ (leaves (insn 133 0 1 (pos 0) (negsuc 2147483647) ∷ []) ∷ errs unknown-function ∷ [])
+    ∷ (leaves (insn 133 0 1 (pos 0) (pos 262143) ∷ []) ∷ gives (insn 133 0 1 (pos 0) (pos 0) ∷ insn 133 0 1 (pos 0) (negsuc 0) ∷ []) [] 0 [] 0 ∷ [])
+    ∷ (leaves (insn 133 0 1 (pos 0) (pos 131071) ∷ insn 149 0 0 (pos 0) (pos 0) ∷ insn 149 0 0 (pos 0) (pos 0) ∷ []) ∷ panicked ∷ [])
+    ∷ (leaves (insn 149 0 0 (pos 0) (pos 0) ∷ []) ∷ gives (insn 149 0 0 (pos 0) (pos 0) ∷ []) [] 0 [] 0 ∷ [])
+    ∷ (leaves (insn 24 2 1 (pos 0) (pos 606) ∷ insn 0 0 0 (pos 0) (pos 0) ∷ []) ∷ gives (insn 24 2 1 (pos 0) (pos 606) ∷ insn 0 0 0 (pos 0) (pos 0) ∷ []) [] 0 [] 0 ∷ [])
+    ∷ (gives (insn 149 0 0 (pos 0) (pos 0) ∷ []) [] 0 [] 0 ∷ [])
+    ∷ (errs unknown-function ∷ [])
     ∷ [])
 unfolding signed u32 u64 i32 add-u64 mul-u64 add-u32 sub-u32 add-i32 sub-i32 insn-is-call relocate-map relocate-maps relocate-functions object-relocate-maps slot-of relocate-from relocate link-new Crate.link relocate-calls crateOf both-steps
 vectors-4 = refl
 
 vectors-5 : (
-    -- 9: call names no code: link: ours 9, the crate UnknownFunction
-    steps (tables
-    []
-    (sym 1 (some 21) 8 other ∷ [])
-    (fun 1 1 0 0 0 0 ∷ [])
-    (rel 1 1 0 32 ∷ [])
-    (insn 133 0 1 (pos 0) (pos 77) ∷ [])
-    []
-    [])
-    (0 ∷ []) (0 ∷ [])
-    [] 1 0
-    -- 9: call names no code: link: ours 9, the crate accepts
-    ∷ steps (tables
-    []
-    (sym 1 (some 20) 10 other ∷ [])
-    (fun 1 1 4096 4096 0 0 ∷ [])
-    (rel 1 1 4096 32 ∷ [])
-    (insn 133 0 1 (pos 0) (negsuc 0) ∷ [])
-    []
-    [])
-    (0 ∷ []) (0 ∷ [])
-    [] 1 4096
-    -- 9: call names no code; top immediate in a call: link: ours 9, the crate UnknownFunction
-    ∷ steps (tables
-    []
-    (sym 1 (some 21) 47 other ∷ [])
-    (fun 3 1 0 0 0 0 ∷ [])
-    (rel 3 1 0 32 ∷ [])
-    (insn 133 0 1 (pos 0) (pos 2147483647) ∷ [])
-    []
-    [])
-    (0 ∷ []) (0 ∷ [])
-    [] 3 0
-    -- a map without symbol not alone:
-    ∷ steps (tables
+    -- calls without maps first: link: ours 3, the crate accepts
+    calls-alone (tables
     []
     []
-    (fun 4 1 0 0 0 0 ∷ [])
-    []
+    (fun 2 1 0 0 0 0 ∷ [])
+    (rel 2 6 0 64 ∷ [])
     (insn 149 0 0 (pos 0) (pos 0) ∷ [])
     []
     [])
     (0 ∷ []) (0 ∷ [])
-    (map-row 25 (some 105) (pos 606) true ∷ map-row 25 none (pos 60) false ∷ []) 4 0
-    -- a map without symbol not alone: slots after the map step
+    [] 2 0
+    -- inside, accepted: callees reached
     ∷ steps (tables
+    (2 ∷ 4 ∷ [])
     []
-    (sym 2 (some 20) 37 other ∷ [])
-    (fun 4 2 1048576 0 0 0 ∷ [])
-    (rel 4 2 0 32 ∷ [])
-    (insn 24 8 0 (pos 0) (pos 1613325067) ∷ insn 0 0 0 (pos 0) (negsuc 2) ∷ [])
+    (fun 2 1 17592183951352 17592183951344 0 0 ∷ [])
+    []
+    (insn 133 0 1 (pos 0) (pos 0) ∷ [])
     []
     [])
     (0 ∷ []) (0 ∷ [])
-    (map-row 20 none (negsuc 0) false ∷ map-row 20 (some 107) (pos 606) false ∷ []) 4 1048576
-    -- a map without symbol not alone; 12: line record outside: link: ours 12, the crate accepts
-    ∷ steps (tables
-    (1 ∷ [])
-    (sym 0 (some 1) 0 section ∷ [])
-    (fun 1 3 0 0 0 2 ∷ [])
-    (rel 1 0 16 32 ∷ [])
-    (insn 149 0 0 (pos 0) (pos 0) ∷ insn 149 0 0 (pos 0) (pos 0) ∷ insn 133 0 1 (pos 0) (negsuc 0) ∷ [])
-    []
-    (line 10 1 185 817452530 ∷ line 134217742 2 352 3460993866 ∷ []))
-    (0 ∷ []) (2 ∷ [])
-    (map-row 20 (some 113) (pos 606) true ∷ map-row 20 none (pos 593964557) true ∷ []) 1 0
-    -- a map without symbol not alone; 6 in the link: link: ours 6, the crate UnknownFunction
+    [] 2 17592183951352
+    -- inside, accepted: callees reached, a map set
     ∷ steps (tables
     (4 ∷ [])
-    (sym 5 (some 4) 4096 text ∷ [])
-    (fun 4 5 4096 4096 0 0 ∷ [])
-    (rel 4 5 4096 64 ∷ [])
-    (insn 149 0 0 (pos 0) (pos 0) ∷ insn 149 0 0 (pos 0) (pos 0) ∷ insn 149 0 0 (pos 0) (pos 0) ∷ insn 149 0 0 (pos 0) (pos 0) ∷ insn 133 0 1 (pos 0) (negsuc 76) ∷ [])
+    (sym 0 (some 4) 0 section ∷ sym 1 (some 20) 36 other ∷ [])
+    (fun 4 3 0 0 0 0 ∷ [])
+    (rel 4 1 0 32 ∷ [])
+    (insn 24 2 0 (pos 9) (pos 48) ∷ insn 0 0 0 (pos 0) (pos 0) ∷ insn 133 0 1 (pos 0) (negsuc 2) ∷ [])
     []
     [])
     (0 ∷ []) (0 ∷ [])
-    (map-row 20 (some 110) (pos 606) true ∷ map-row 20 none (negsuc 0) false ∷ []) 4 4096
-    -- a map without symbol not alone; 6 in the link: link: ours 6, the crate accepts
+    (map-row 20 none (pos 97) false ∷ []) 4 0
+    -- inside, accepted: callees reached, a map set, function records
     ∷ steps (tables
-    (1 ∷ [])
-    (sym 1 (some 1) 1048360 section ∷ [])
-    (fun 1 2 1048576 0 0 0 ∷ fun 1 1 1048640 64 0 0 ∷ [])
-    (rel 1 1 8 64 ∷ [])
-    (insn 149 0 0 (pos 0) (pos 0) ∷ insn 24 2 0 (pos 0) (pos 280) ∷ insn 149 0 0 (pos 0) (pos 0) ∷ [])
-    []
+    (1 ∷ 2 ∷ 4 ∷ [])
+    (sym 2 (some 21) 20 other ∷ [])
+    (fun 4 3 0 0 1 0 ∷ [])
+    (rel 4 2 8 64 ∷ [])
+    (insn 133 0 1 (pos 0) (negsuc 0) ∷ insn 24 4 4 (pos 0) (pos 1) ∷ insn 0 0 0 (pos 0) (negsuc 2) ∷ [])
+    (func 0 4 ∷ [])
     [])
-    (0 ∷ 0 ∷ []) (0 ∷ 0 ∷ [])
-    (map-row 20 (some 116) (pos 606) false ∷ map-row 20 none (pos 714870651) false ∷ []) 1 1048576
-    -- a map without symbol not alone; 8: form unknown: link: ours 8, the crate panics
+    (1 ∷ []) (0 ∷ [])
+    (map-row 21 (some 2) (negsuc 0) false ∷ []) 4 0
+    -- inside, accepted: callees reached, a map set, function records, line records
     ∷ steps (tables
+    (1 ∷ 3 ∷ [])
+    (sym 0 (some 20) 24 other ∷ [])
+    (fun 3 3 2101248 4096 1 2 ∷ [])
+    (rel 3 0 4096 64 ∷ [])
+    (insn 24 8 6 (pos 0) (pos 44) ∷ insn 0 0 0 (pos 0) (pos 0) ∷ insn 133 0 1 (pos 0) (pos 262141) ∷ [])
+    (func 99 67 ∷ [])
+    (line 0 0 316 806831790 ∷ line 0 0 133 2926219979 ∷ []))
+    (1 ∷ []) (2 ∷ [])
+    (map-row 20 none (negsuc 0) true ∷ []) 3 2101248
+    -- inside, accepted: callees reached, a map set, line records
+    ∷ steps (tables
+    (4 ∷ [])
+    (sym 0 (some 20) 2 other ∷ [])
+    (fun 4 6 0 0 0 2 ∷ [])
+    (rel 4 0 0 0 ∷ [])
+    (insn 24 5 0 (pos 0) (negsuc 2147483647) ∷ insn 0 0 0 (pos 0) (pos 0) ∷ insn 133 0 1 (pos 0) (negsuc 2) ∷ insn 183 1 0 (pos 0) (pos 5) ∷ insn 24 3 0 (pos 0) (pos 0) ∷ insn 149 0 0 (pos 0) (pos 0) ∷ [])
     []
-    (sym 1 none 0 text ∷ [])
-    (fun 3 1 0 0 0 0 ∷ [])
-    (rel 3 1 0 64 ∷ [])
-    (insn 149 0 0 (pos 0) (pos 0) ∷ [])
+    (line 0 2 35 2814408741 ∷ line 3 1 207 4147311776 ∷ []))
+    (0 ∷ []) (2 ∷ [])
+    (map-row 20 none (pos 903759001) false ∷ []) 4 0
+    -- inside, accepted: callees reached, a reference
+    ∷ steps (tables
+    (2 ∷ 3 ∷ 4 ∷ [])
+    (sym 2 (some 2) 1048576 text ∷ [])
+    (fun 2 3 1048576 0 0 0 ∷ [])
+    (rel 2 2 0 32 ∷ [])
+    (insn 24 6 0 (pos 9) (negsuc 2147483647) ∷ insn 0 0 0 (pos 0) (pos 0) ∷ insn 133 0 0 (pos 0) (pos 1) ∷ [])
     []
     [])
     (0 ∷ []) (0 ∷ [])
-    (map-row 20 (some 107) (pos 606) false ∷ map-row 20 none (pos 16) false ∷ []) 3 0
-    -- a map without symbol not alone; 9: call names no code: link: ours 9, the crate UnknownFunction
+    [] 2 1048576
+    -- inside, accepted: callees reached, a reference, a map set
     ∷ steps (tables
+    (2 ∷ [])
+    (sym 2 (some 21) 63 other ∷ sym 6 (some 2) 0 section ∷ [])
+    (fun 2 5 0 0 0 1 ∷ [])
+    (rel 2 6 8 64 ∷ rel 2 2 24 0 ∷ [])
+    (insn 5 0 0 (negsuc 1) (pos 0) ∷ insn 24 6 0 (pos 0) (pos 0) ∷ insn 0 0 0 (pos 0) (negsuc 2) ∷ insn 24 3 0 (pos 9) (negsuc 1185165170) ∷ insn 0 0 0 (pos 0) (pos 0) ∷ [])
     []
-    (sym 4 (some 20) 12 section ∷ [])
-    (fun 4 2 1048576 0 0 0 ∷ [])
-    (rel 4 4 8 32 ∷ [])
-    (insn 149 0 0 (pos 0) (pos 0) ∷ insn 133 0 1 (pos 0) (negsuc 0) ∷ [])
-    []
+    (line 0 0 49 2373000679 ∷ []))
+    (0 ∷ []) (1 ∷ [])
+    (map-row 21 (some 2) (negsuc 0) false ∷ []) 2 0
+    -- inside, accepted: callees reached, a reference, a map set, function records
+    ∷ steps (tables
+    (3 ∷ [])
+    (sym 1 (some 3) 0 text ∷ sym 5 (some 20) 61 section ∷ [])
+    (fun 3 4 0 0 1 0 ∷ [])
+    (rel 3 1 0 0 ∷ rel 3 5 16 64 ∷ [])
+    (insn 24 8 0 (pos 0) (pos 0) ∷ insn 0 0 0 (pos 0) (negsuc 2) ∷ insn 24 5 0 (pos 9) (pos 50) ∷ insn 0 0 0 (pos 0) (pos 0) ∷ [])
+    (func 4294967295 67 ∷ [])
     [])
-    (0 ∷ []) (0 ∷ [])
-    (map-row 20 (some 111) (pos 606) false ∷ map-row 20 none (pos 45) true ∷ []) 4 1048576
+    (1 ∷ []) (0 ∷ [])
+    (map-row 20 none (pos 1014877917) false ∷ []) 3 0
+    -- inside, accepted: callees reached, a reference, a map set, function records, line records
+    ∷ steps (tables
+    (2 ∷ 4 ∷ [])
+    (sym 2 (some 21) 8 other ∷ sym 5 (some 4) 1048576 section ∷ [])
+    (fun 4 4 1048576 0 1 2 ∷ [])
+    (rel 4 2 0 64 ∷ rel 4 5 16 64 ∷ [])
+    (insn 24 1 0 (pos 0) (pos 27) ∷ insn 0 0 0 (pos 0) (pos 0) ∷ insn 24 2 0 (pos 0) (pos 0) ∷ insn 0 0 0 (pos 0) (pos 0) ∷ [])
+    (func 7 84 ∷ [])
+    (line 10 2 486 226122344 ∷ line 11 1 64 1569826846 ∷ []))
+    (1 ∷ []) (2 ∷ [])
+    (map-row 21 (some 2) (pos 7) true ∷ []) 4 1048576
     ∷ [])
     ≡ (
-    (leaves (insn 133 0 1 (pos 0) (pos 77) ∷ []) ∷ errs unknown-function ∷ [])
-    ∷ (leaves (insn 133 0 1 (pos 0) (negsuc 0) ∷ []) ∷ gives (insn 133 0 1 (pos 0) (pos 0) ∷ insn 133 0 1 (pos 0) (negsuc 0) ∷ []) [] 0 [] 0 ∷ [])
-    ∷ (leaves (insn 133 0 1 (pos 0) (pos 2147483647) ∷ []) ∷ errs unknown-function ∷ [])
-    ∷ (leaves (insn 149 0 0 (pos 0) (pos 0) ∷ []) ∷ gives (insn 149 0 0 (pos 0) (pos 0) ∷ []) [] 0 [] 0 ∷ [])
-    ∷ (leaves (insn 24 8 1 (pos 0) (pos 606) ∷ insn 0 0 0 (pos 0) (negsuc 2) ∷ []) ∷ gives (insn 24 8 1 (pos 0) (pos 606) ∷ insn 0 0 0 (pos 0) (negsuc 2) ∷ []) [] 0 [] 0 ∷ [])
-    ∷ (leaves (insn 149 0 0 (pos 0) (pos 0) ∷ insn 149 0 0 (pos 0) (pos 0) ∷ insn 133 0 1 (pos 0) (negsuc 0) ∷ []) ∷ gives (insn 149 0 0 (pos 0) (pos 0) ∷ insn 149 0 0 (pos 0) (pos 0) ∷ insn 133 0 1 (pos 0) (pos 0) ∷ insn 149 0 0 (pos 0) (pos 0) ∷ insn 149 0 0 (pos 0) (pos 0) ∷ insn 133 0 1 (pos 0) (negsuc 2) ∷ []) [] 0 (line 10 1 185 817452530 ∷ line 134217742 2 352 3460993866 ∷ line 3 1 185 817452530 ∷ line 134217735 2 352 3460993866 ∷ []) 4 ∷ [])
-    ∷ (leaves (insn 149 0 0 (pos 0) (pos 0) ∷ insn 149 0 0 (pos 0) (pos 0) ∷ insn 149 0 0 (pos 0) (pos 0) ∷ insn 149 0 0 (pos 0) (pos 0) ∷ insn 133 0 1 (pos 0) (negsuc 76) ∷ []) ∷ errs unknown-function ∷ [])
-    ∷ (leaves (insn 149 0 0 (pos 0) (pos 0) ∷ insn 24 2 0 (pos 0) (pos 280) ∷ insn 149 0 0 (pos 0) (pos 0) ∷ []) ∷ gives (insn 149 0 0 (pos 0) (pos 0) ∷ insn 24 2 4 (pos 0) (pos 0) ∷ insn 149 0 0 (pos 0) (pos 0) ∷ []) [] 0 [] 0 ∷ [])
-    ∷ (leaves (insn 149 0 0 (pos 0) (pos 0) ∷ []) ∷ panicked ∷ [])
-    ∷ (leaves (insn 149 0 0 (pos 0) (pos 0) ∷ insn 133 0 1 (pos 0) (negsuc 0) ∷ []) ∷ errs unknown-function ∷ [])
+    (gives (insn 149 0 0 (pos 0) (pos 0) ∷ []) [] 0 [] 0 ∷ [])
+    ∷ (leaves (insn 133 0 1 (pos 0) (pos 0) ∷ []) ∷ gives (insn 133 0 1 (pos 0) (pos 0) ∷ insn 133 0 1 (pos 0) (negsuc 0) ∷ []) [] 0 [] 0 ∷ [])
+    ∷ (leaves (insn 24 2 1 (pos 9) (pos 97) ∷ insn 0 0 0 (pos 0) (pos 0) ∷ insn 133 0 1 (pos 0) (negsuc 2) ∷ []) ∷ gives (insn 24 2 1 (pos 9) (pos 97) ∷ insn 0 0 0 (pos 0) (pos 0) ∷ insn 133 0 1 (pos 0) (pos 0) ∷ insn 24 2 1 (pos 9) (pos 97) ∷ insn 0 0 0 (pos 0) (pos 0) ∷ insn 133 0 1 (pos 0) (negsuc 2) ∷ []) [] 0 [] 0 ∷ [])
+    ∷ (leaves (insn 133 0 1 (pos 0) (negsuc 0) ∷ insn 24 4 1 (pos 0) (negsuc 0) ∷ insn 0 0 0 (pos 0) (negsuc 2) ∷ []) ∷ gives (insn 133 0 1 (pos 0) (pos 2) ∷ insn 24 4 1 (pos 0) (negsuc 0) ∷ insn 0 0 0 (pos 0) (negsuc 2) ∷ insn 133 0 1 (pos 0) (negsuc 0) ∷ insn 24 4 1 (pos 0) (negsuc 0) ∷ insn 0 0 0 (pos 0) (negsuc 2) ∷ []) (func 0 4 ∷ func 3 4 ∷ []) 2 [] 0 ∷ [])
+    ∷ (leaves (insn 24 8 2 (pos 0) (negsuc 0) ∷ insn 0 0 0 (pos 0) (pos 68) ∷ insn 133 0 1 (pos 0) (pos 262141) ∷ []) ∷ gives (insn 24 8 2 (pos 0) (negsuc 0) ∷ insn 0 0 0 (pos 0) (pos 68) ∷ insn 133 0 1 (pos 0) (pos 0) ∷ insn 24 8 2 (pos 0) (negsuc 0) ∷ insn 0 0 0 (pos 0) (pos 68) ∷ insn 133 0 1 (pos 0) (negsuc 2) ∷ []) (func 99 67 ∷ func 3 67 ∷ []) 2 (line 0 0 316 806831790 ∷ line 0 0 133 2926219979 ∷ line 3 0 316 806831790 ∷ line 3 0 133 2926219979 ∷ []) 4 ∷ [])
+    ∷ (leaves (insn 24 5 1 (pos 0) (pos 903759001) ∷ insn 0 0 0 (pos 0) (pos 0) ∷ insn 133 0 1 (pos 0) (negsuc 2) ∷ insn 183 1 0 (pos 0) (pos 5) ∷ insn 24 3 0 (pos 0) (pos 0) ∷ insn 149 0 0 (pos 0) (pos 0) ∷ []) ∷ gives (insn 24 5 1 (pos 0) (pos 903759001) ∷ insn 0 0 0 (pos 0) (pos 0) ∷ insn 133 0 1 (pos 0) (pos 3) ∷ insn 183 1 0 (pos 0) (pos 5) ∷ insn 24 3 0 (pos 0) (pos 0) ∷ insn 149 0 0 (pos 0) (pos 0) ∷ insn 24 5 1 (pos 0) (pos 903759001) ∷ insn 0 0 0 (pos 0) (pos 0) ∷ insn 133 0 1 (pos 0) (negsuc 2) ∷ insn 183 1 0 (pos 0) (pos 5) ∷ insn 24 3 0 (pos 0) (pos 0) ∷ insn 149 0 0 (pos 0) (pos 0) ∷ []) [] 0 (line 0 2 35 2814408741 ∷ line 3 1 207 4147311776 ∷ line 6 2 35 2814408741 ∷ line 9 1 207 4147311776 ∷ []) 4 ∷ [])
+    ∷ (leaves (insn 24 6 0 (pos 9) (negsuc 2147483647) ∷ insn 0 0 0 (pos 0) (pos 0) ∷ insn 133 0 0 (pos 0) (pos 1) ∷ []) ∷ gives (insn 24 6 4 (pos 9) (pos 2) ∷ insn 0 0 0 (pos 0) (pos 0) ∷ insn 133 0 0 (pos 0) (pos 1) ∷ insn 24 6 4 (pos 9) (negsuc 0) ∷ insn 0 0 0 (pos 0) (pos 0) ∷ insn 133 0 0 (pos 0) (pos 1) ∷ []) [] 0 [] 0 ∷ [])
+    ∷ (leaves (insn 5 0 0 (negsuc 1) (pos 0) ∷ insn 24 6 0 (pos 0) (pos 0) ∷ insn 0 0 0 (pos 0) (negsuc 2) ∷ insn 24 3 1 (pos 9) (negsuc 0) ∷ insn 0 0 0 (pos 0) (pos 0) ∷ []) ∷ gives (insn 5 0 0 (negsuc 1) (pos 0) ∷ insn 24 6 4 (pos 0) (pos 3) ∷ insn 0 0 0 (pos 0) (negsuc 2) ∷ insn 24 3 1 (pos 9) (negsuc 0) ∷ insn 0 0 0 (pos 0) (pos 0) ∷ insn 5 0 0 (negsuc 1) (pos 0) ∷ insn 24 6 4 (pos 0) (negsuc 1) ∷ insn 0 0 0 (pos 0) (negsuc 2) ∷ insn 24 3 1 (pos 9) (negsuc 0) ∷ insn 0 0 0 (pos 0) (pos 0) ∷ []) [] 0 (line 0 0 49 2373000679 ∷ line 5 0 49 2373000679 ∷ []) 2 ∷ [])
+    ∷ (leaves (insn 24 8 0 (pos 0) (pos 0) ∷ insn 0 0 0 (pos 0) (negsuc 2) ∷ insn 24 5 1 (pos 9) (pos 1014877917) ∷ insn 0 0 0 (pos 0) (pos 0) ∷ []) ∷ gives (insn 24 8 4 (pos 0) (pos 3) ∷ insn 0 0 0 (pos 0) (negsuc 2) ∷ insn 24 5 1 (pos 9) (pos 1014877917) ∷ insn 0 0 0 (pos 0) (pos 0) ∷ insn 24 8 4 (pos 0) (negsuc 0) ∷ insn 0 0 0 (pos 0) (negsuc 2) ∷ insn 24 5 1 (pos 9) (pos 1014877917) ∷ insn 0 0 0 (pos 0) (pos 0) ∷ []) (func 4294967295 67 ∷ func 4 67 ∷ []) 2 [] 0 ∷ [])
+    ∷ (leaves (insn 24 1 2 (pos 0) (pos 7) ∷ insn 0 0 0 (pos 0) (pos 35) ∷ insn 24 2 0 (pos 0) (pos 0) ∷ insn 0 0 0 (pos 0) (pos 0) ∷ []) ∷ gives (insn 24 1 2 (pos 0) (pos 7) ∷ insn 0 0 0 (pos 0) (pos 35) ∷ insn 24 2 4 (pos 0) (pos 1) ∷ insn 0 0 0 (pos 0) (pos 0) ∷ insn 24 1 2 (pos 0) (pos 7) ∷ insn 0 0 0 (pos 0) (pos 35) ∷ insn 24 2 4 (pos 0) (negsuc 2) ∷ insn 0 0 0 (pos 0) (pos 0) ∷ []) (func 7 84 ∷ func 4 84 ∷ []) 2 (line 10 2 486 226122344 ∷ line 11 1 64 1569826846 ∷ line 4 2 486 226122344 ∷ line 5 1 64 1569826846 ∷ []) 4 ∷ [])
     ∷ [])
 unfolding signed u32 u64 i32 add-u64 mul-u64 add-u32 sub-u32 add-i32 sub-i32 insn-is-call relocate-map relocate-maps relocate-functions object-relocate-maps slot-of relocate-from relocate link-new Crate.link relocate-calls crateOf both-steps
 vectors-5 = refl
 
 vectors-6 : (
-    -- a map without symbol not alone; 9: call names no code: link: ours 9, the crate accepts
+    -- inside, accepted: callees reached, a reference, a map set, line records
     steps (tables
+    (4 ∷ [])
+    (sym 1 (some 4) 2199022206968 text ∷ sym 4 (some 20) 33 section ∷ [])
+    (fun 4 4 2199022206968 0 0 2 ∷ [])
+    (rel 4 4 0 64 ∷ rel 4 1 16 32 ∷ [])
+    (insn 24 3 0 (pos 0) (pos 977475710) ∷ insn 0 0 0 (pos 0) (pos 0) ∷ insn 24 13 14 (pos 0) (pos 5) ∷ insn 0 0 0 (pos 0) (pos 0) ∷ [])
     []
-    (sym 1 none 36 section ∷ [])
-    (fun 3 1 0 0 0 0 ∷ [])
-    (rel 3 1 0 32 ∷ [])
-    (insn 133 0 1 (pos 0) (negsuc 0) ∷ [])
-    []
-    [])
-    (0 ∷ []) (0 ∷ [])
-    (map-row 20 none (negsuc 0) false ∷ map-row 20 (some 113) (pos 606) true ∷ []) 3 0
-    -- a map without symbol not alone; top immediate in a call:
+    (line 10 0 231 3708007644 ∷ line 12 1 80 2191227261 ∷ []))
+    (0 ∷ []) (2 ∷ [])
+    (map-row 20 none (pos 5) false ∷ []) 4 2199022206968
+    -- inside, accepted: callees reached, a reference, function records
     ∷ steps (tables
+    (2 ∷ [])
     []
+    (fun 9 3 4096 4096 1 0 ∷ [])
     []
-    (fun 4 1 4398044418040 4096 0 0 ∷ [])
-    []
-    (insn 133 0 1 (pos 0) (pos 2147483647) ∷ [])
-    []
+    (insn 133 0 1 (pos 0) (negsuc 0) ∷ insn 24 4 4 (pos 0) (negsuc 2147483647) ∷ insn 0 0 0 (pos 0) (pos 0) ∷ [])
+    (func 0 47 ∷ [])
     [])
-    (0 ∷ []) (0 ∷ [])
-    (map-row 20 none (negsuc 0) false ∷ map-row 20 (some 117) (pos 606) false ∷ []) 4 4398044418040
-    -- a map without symbol not alone; top immediate in a call: link: ours 0, the crate UnknownFunction
-    ∷ steps (tables
-    []
-    []
-    (fun 2 1 0 0 0 0 ∷ fun 2 1 17179869184 17179869184 0 0 ∷ [])
-    []
-    (insn 133 0 1 (pos 0) (pos 2147483647) ∷ insn 149 0 0 (pos 0) (pos 0) ∷ [])
-    []
-    [])
-    (0 ∷ 0 ∷ []) (0 ∷ 0 ∷ [])
-    (map-row 25 (some 105) (pos 606) false ∷ map-row 25 none (negsuc 406070045) false ∷ []) 2 0
-    -- a map without symbol not alone; top immediate in a call: slots after the map step
-    ∷ steps (tables
-    []
-    (sym 8 (some 20) 49 other ∷ [])
-    (fun 1 1 0 0 0 0 ∷ fun 1 2 40 40 0 0 ∷ [])
-    (rel 1 8 40 64 ∷ [])
-    (insn 133 0 1 (pos 0) (pos 2147483647) ∷ insn 24 9 0 (pos 9) (negsuc 0) ∷ insn 0 0 0 (pos 0) (negsuc 2) ∷ [])
-    []
-    [])
-    (0 ∷ 0 ∷ []) (0 ∷ 0 ∷ [])
-    (map-row 21 (some 4) (negsuc 0) false ∷ map-row 20 none (pos 44) false ∷ map-row 20 (some 115) (pos 606) false ∷ []) 1 0
-    -- calls without maps first:
-    ∷ calls-alone (tables
-    []
-    []
-    (fun 2 1 1048576 0 0 0 ∷ [])
-    []
-    (insn 149 0 0 (pos 0) (pos 0) ∷ [])
-    []
-    [])
-    (0 ∷ []) (0 ∷ [])
-    [] 2 1048576
-    -- calls without maps first: link: ours 3, the crate UnknownFunction
-    ∷ calls-alone (tables
-    []
-    []
-    (fun 4 2 0 0 0 0 ∷ [])
-    (rel 4 11 8 0 ∷ [])
-    (insn 149 0 0 (pos 0) (pos 0) ∷ insn 133 0 1 (pos 0) (negsuc 0) ∷ [])
-    []
-    [])
-    (0 ∷ []) (0 ∷ [])
-    [] 4 0
-    -- calls without maps first: link: ours 3, the crate accepts
-    ∷ calls-alone (tables
-    []
-    []
-    (fun 1 1 4096 4096 0 0 ∷ [])
-    (rel 1 6 4096 64 ∷ [])
-    (insn 149 0 0 (pos 0) (pos 0) ∷ [])
-    []
-    [])
-    (0 ∷ []) (0 ∷ [])
-    [] 1 4096
-    -- inside: 0 (0, false, 0, 0, 0)
+    (1 ∷ []) (0 ∷ [])
+    [] 9 4096
+    -- inside, accepted: callees reached, a reference, function records, line records
     ∷ steps (tables
     (3 ∷ [])
     (sym 0 (some 3) 0 section ∷ [])
-    (fun 3 2 0 0 0 0 ∷ [])
-    []
-    (insn 183 1 0 (pos 0) (pos 5) ∷ insn 133 0 1 (pos 1) (pos 1) ∷ [])
-    []
-    [])
-    (0 ∷ []) (0 ∷ [])
+    (fun 3 2 0 0 1 2 ∷ [])
+    (rel 3 0 0 64 ∷ [])
+    (insn 24 9 0 (pos 0) (pos 0) ∷ insn 0 0 0 (pos 0) (pos 3) ∷ [])
+    (func 7 85 ∷ [])
+    (line 10 1 461 1688048070 ∷ line 11 2 475 2527537299 ∷ []))
+    (1 ∷ []) (2 ∷ [])
     [] 3 0
-    -- inside: 0 (0, false, 0, 0, 1)
+    -- inside, accepted: callees reached, a reference, line records
     ∷ steps (tables
-    (1 ∷ 2 ∷ 4 ∷ [])
+    (2 ∷ 3 ∷ 4 ∷ [])
+    (sym 0 (some 2) 4080 section ∷ [])
+    (fun 2 2 4096 4096 0 2 ∷ [])
+    (rel 2 0 4096 64 ∷ [])
+    (insn 24 9 12 (pos 0) (pos 16) ∷ insn 0 0 0 (pos 0) (pos 3) ∷ [])
     []
-    (fun 4 2 0 0 1 0 ∷ [])
+    (line 0 0 343 2226542000 ∷ line 1 0 181 4020261709 ∷ []))
+    (0 ∷ []) (2 ∷ [])
+    [] 2 4096
+    -- inside, accepted: callees reached, function records
+    ∷ steps (tables
+    (4 ∷ [])
     []
-    (insn 133 0 1 (pos 1) (pos 1) ∷ insn 183 1 0 (pos 0) (pos 5) ∷ [])
-    (func 4294967295 17 ∷ [])
+    (fun 9 2 4096 4096 1 0 ∷ [])
+    []
+    (insn 24 3 0 (pos 0) (pos 0) ∷ insn 133 0 1 (pos 0) (negsuc 1) ∷ [])
+    (func 0 80 ∷ [])
     [])
     (1 ∷ []) (0 ∷ [])
-    [] 4 0
-    -- inside: 0 (0, false, 0, 1, 0)
+    [] 9 4096
+    -- inside, accepted: callees reached, function records, line records
+    ∷ steps (tables
+    (4 ∷ [])
+    []
+    (fun 4 1 1048576 0 1 2 ∷ [])
+    []
+    (insn 133 0 1 (pos 0) (pos 131071) ∷ [])
+    (func 7 39 ∷ [])
+    (line 0 1 379 2883452956 ∷ line 0 2 166 787632796 ∷ []))
+    (1 ∷ []) (2 ∷ [])
+    [] 4 1048576
+    -- inside, accepted: callees reached, line records
+    ∷ steps (tables
+    (2 ∷ [])
+    []
+    (fun 9 1 2199021162488 2199021162488 0 2 ∷ [])
+    []
+    (insn 133 0 1 (pos 0) (negsuc 0) ∷ [])
+    []
+    (line 0 1 431 2208599295 ∷ line 0 2 36 3794872765 ∷ []))
+    (0 ∷ []) (2 ∷ [])
+    [] 9 2199021162488
+    -- inside, accepted: nothing reached
     ∷ steps (tables
     (1 ∷ 2 ∷ [])
     []
-    (fun 2 2 0 0 0 2 ∷ [])
+    (fun 2 1 0 0 0 0 ∷ [])
     []
-    (insn 24 5 0 (pos 0) (pos 51) ∷ insn 0 0 0 (pos 0) (pos 0) ∷ [])
+    (insn 133 0 1 (pos 1) (pos 1) ∷ [])
     []
-    (line 37 0 263 1829580222 ∷ line 38 1 436 308347375 ∷ []))
-    (0 ∷ []) (2 ∷ [])
+    [])
+    (0 ∷ []) (0 ∷ [])
     [] 2 0
+    -- inside, accepted: nothing reached, a map set
+    ∷ steps (tables
+    (3 ∷ [])
+    (sym 1 (some 3) 0 text ∷ sym 4 (some 20) 40 other ∷ [])
+    (fun 3 2 0 0 0 0 ∷ [])
+    (rel 3 4 0 0 ∷ [])
+    (insn 24 8 0 (pos 0) (pos 19) ∷ insn 0 0 0 (pos 0) (pos 0) ∷ [])
+    []
+    [])
+    (0 ∷ []) (0 ∷ [])
+    (map-row 20 none (negsuc 0) true ∷ []) 3 0
+    -- inside, accepted: nothing reached, a map set, function records
+    ∷ steps (tables
+    (4 ∷ [])
+    (sym 2 (some 21) 5 other ∷ [])
+    (fun 4 2 1048576 0 1 0 ∷ [])
+    (rel 4 2 0 64 ∷ [])
+    (insn 24 4 0 (pos 0) (negsuc 0) ∷ insn 0 0 0 (pos 0) (pos 0) ∷ [])
+    (func 7 85 ∷ [])
+    [])
+    (1 ∷ []) (0 ∷ [])
+    (map-row 21 (some 2) (pos 54) true ∷ []) 4 1048576
     ∷ [])
     ≡ (
-    (leaves (insn 133 0 1 (pos 0) (negsuc 0) ∷ []) ∷ gives (insn 133 0 1 (pos 0) (pos 0) ∷ insn 133 0 1 (pos 0) (negsuc 0) ∷ []) [] 0 [] 0 ∷ [])
-    ∷ (leaves (insn 133 0 1 (pos 0) (pos 2147483647) ∷ []) ∷ errs unknown-function ∷ [])
-    ∷ (leaves (insn 133 0 1 (pos 0) (pos 2147483647) ∷ insn 149 0 0 (pos 0) (pos 0) ∷ []) ∷ errs unknown-function ∷ [])
-    ∷ (leaves (insn 133 0 1 (pos 0) (pos 2147483647) ∷ insn 24 9 1 (pos 9) (pos 606) ∷ insn 0 0 0 (pos 0) (negsuc 2) ∷ []) ∷ errs unknown-function ∷ [])
-    ∷ (gives (insn 149 0 0 (pos 0) (pos 0) ∷ []) [] 0 [] 0 ∷ [])
-    ∷ (errs unknown-function ∷ [])
-    ∷ (gives (insn 149 0 0 (pos 0) (pos 0) ∷ []) [] 0 [] 0 ∷ [])
-    ∷ (leaves (insn 183 1 0 (pos 0) (pos 5) ∷ insn 133 0 1 (pos 1) (pos 1) ∷ []) ∷ gives (insn 183 1 0 (pos 0) (pos 5) ∷ insn 133 0 1 (pos 1) (pos 1) ∷ []) [] 0 [] 0 ∷ [])
-    ∷ (leaves (insn 133 0 1 (pos 1) (pos 1) ∷ insn 183 1 0 (pos 0) (pos 5) ∷ []) ∷ gives (insn 133 0 1 (pos 1) (pos 1) ∷ insn 183 1 0 (pos 0) (pos 5) ∷ []) (func 4294967295 17 ∷ []) 1 [] 0 ∷ [])
-    ∷ (leaves (insn 24 5 0 (pos 0) (pos 51) ∷ insn 0 0 0 (pos 0) (pos 0) ∷ []) ∷ gives (insn 24 5 0 (pos 0) (pos 51) ∷ insn 0 0 0 (pos 0) (pos 0) ∷ []) [] 0 (line 37 0 263 1829580222 ∷ line 38 1 436 308347375 ∷ []) 2 ∷ [])
+    (leaves (insn 24 3 1 (pos 0) (pos 5) ∷ insn 0 0 0 (pos 0) (pos 0) ∷ insn 24 13 14 (pos 0) (pos 5) ∷ insn 0 0 0 (pos 0) (pos 0) ∷ []) ∷ gives (insn 24 3 1 (pos 0) (pos 5) ∷ insn 0 0 0 (pos 0) (pos 0) ∷ insn 24 13 4 (pos 0) (pos 1) ∷ insn 0 0 0 (pos 0) (pos 0) ∷ insn 24 3 1 (pos 0) (pos 5) ∷ insn 0 0 0 (pos 0) (pos 0) ∷ insn 24 13 4 (pos 0) (negsuc 2) ∷ insn 0 0 0 (pos 0) (pos 0) ∷ []) [] 0 (line 10 0 231 3708007644 ∷ line 12 1 80 2191227261 ∷ line 4 0 231 3708007644 ∷ line 6 1 80 2191227261 ∷ []) 4 ∷ [])
+    ∷ (leaves (insn 133 0 1 (pos 0) (negsuc 0) ∷ insn 24 4 4 (pos 0) (negsuc 2147483647) ∷ insn 0 0 0 (pos 0) (pos 0) ∷ []) ∷ gives (insn 133 0 1 (pos 0) (pos 2) ∷ insn 24 4 4 (pos 0) (negsuc 2147483647) ∷ insn 0 0 0 (pos 0) (pos 0) ∷ insn 133 0 1 (pos 0) (negsuc 0) ∷ insn 24 4 4 (pos 0) (negsuc 2147483647) ∷ insn 0 0 0 (pos 0) (pos 0) ∷ []) (func 0 47 ∷ func 3 47 ∷ []) 2 [] 0 ∷ [])
+    ∷ (leaves (insn 24 9 0 (pos 0) (pos 0) ∷ insn 0 0 0 (pos 0) (pos 3) ∷ []) ∷ gives (insn 24 9 4 (pos 0) (pos 1) ∷ insn 0 0 0 (pos 0) (pos 3) ∷ insn 24 9 4 (pos 0) (negsuc 0) ∷ insn 0 0 0 (pos 0) (pos 3) ∷ []) (func 7 85 ∷ func 2 85 ∷ []) 2 (line 10 1 461 1688048070 ∷ line 11 2 475 2527537299 ∷ line 2 1 461 1688048070 ∷ line 3 2 475 2527537299 ∷ []) 4 ∷ [])
+    ∷ (leaves (insn 24 9 12 (pos 0) (pos 16) ∷ insn 0 0 0 (pos 0) (pos 3) ∷ []) ∷ gives (insn 24 9 4 (pos 0) (pos 1) ∷ insn 0 0 0 (pos 0) (pos 3) ∷ insn 24 9 4 (pos 0) (negsuc 0) ∷ insn 0 0 0 (pos 0) (pos 3) ∷ []) [] 0 (line 0 0 343 2226542000 ∷ line 1 0 181 4020261709 ∷ line 2 0 343 2226542000 ∷ line 3 0 181 4020261709 ∷ []) 4 ∷ [])
+    ∷ (leaves (insn 24 3 0 (pos 0) (pos 0) ∷ insn 133 0 1 (pos 0) (negsuc 1) ∷ []) ∷ gives (insn 24 3 0 (pos 0) (pos 0) ∷ insn 133 0 1 (pos 0) (pos 0) ∷ insn 24 3 0 (pos 0) (pos 0) ∷ insn 133 0 1 (pos 0) (negsuc 1) ∷ []) (func 0 80 ∷ func 2 80 ∷ []) 2 [] 0 ∷ [])
+    ∷ (leaves (insn 133 0 1 (pos 0) (pos 131071) ∷ []) ∷ gives (insn 133 0 1 (pos 0) (pos 0) ∷ insn 133 0 1 (pos 0) (negsuc 0) ∷ []) (func 7 39 ∷ func 1 39 ∷ []) 2 (line 0 1 379 2883452956 ∷ line 0 2 166 787632796 ∷ line 1 1 379 2883452956 ∷ line 1 2 166 787632796 ∷ []) 4 ∷ [])
+    ∷ (leaves (insn 133 0 1 (pos 0) (negsuc 0) ∷ []) ∷ gives (insn 133 0 1 (pos 0) (pos 0) ∷ insn 133 0 1 (pos 0) (negsuc 0) ∷ []) [] 0 (line 0 1 431 2208599295 ∷ line 0 2 36 3794872765 ∷ line 1 1 431 2208599295 ∷ line 1 2 36 3794872765 ∷ []) 4 ∷ [])
+    ∷ (leaves (insn 133 0 1 (pos 1) (pos 1) ∷ []) ∷ gives (insn 133 0 1 (pos 1) (pos 1) ∷ []) [] 0 [] 0 ∷ [])
+    ∷ (leaves (insn 24 8 2 (pos 0) (negsuc 0) ∷ insn 0 0 0 (pos 0) (pos 59) ∷ []) ∷ gives (insn 24 8 2 (pos 0) (negsuc 0) ∷ insn 0 0 0 (pos 0) (pos 59) ∷ []) [] 0 [] 0 ∷ [])
+    ∷ (leaves (insn 24 4 2 (pos 0) (pos 54) ∷ insn 0 0 0 (pos 0) (pos 4) ∷ []) ∷ gives (insn 24 4 2 (pos 0) (pos 54) ∷ insn 0 0 0 (pos 0) (pos 4) ∷ []) (func 7 85 ∷ []) 1 [] 0 ∷ [])
     ∷ [])
 unfolding signed u32 u64 i32 add-u64 mul-u64 add-u32 sub-u32 add-i32 sub-i32 insn-is-call relocate-map relocate-maps relocate-functions object-relocate-maps slot-of relocate-from relocate link-new Crate.link relocate-calls crateOf both-steps
 vectors-6 = refl
 
 vectors-7 : (
-    -- inside: 0 (0, false, 0, 1, 1)
+    -- inside, accepted: nothing reached, a map set, function records, line records
     steps (tables
-    (1 ∷ 4 ∷ [])
-    []
-    (fun 1 1 4096 4096 1 2 ∷ [])
-    []
-    (insn 183 1 0 (pos 0) (pos 5) ∷ [])
-    (func 0 92 ∷ [])
-    (line 0 0 410 2708000066 ∷ line 0 2 492 4213729819 ∷ []))
-    (1 ∷ []) (2 ∷ [])
-    [] 1 4096
-    -- inside: 0 (0, false, 1, 0, 0)
-    ∷ steps (tables
-    (1 ∷ 2 ∷ 4 ∷ [])
-    (sym 2 (some 20) 26 section ∷ [])
-    (fun 4 4 8192 8192 0 1 ∷ [])
-    (rel 4 2 8200 64 ∷ [])
-    (insn 133 0 0 (pos 0) (pos 1) ∷ insn 24 0 0 (pos 0) (pos 32) ∷ insn 0 0 0 (pos 0) (negsuc 2) ∷ insn 133 0 1 (pos 1) (pos 1) ∷ [])
-    []
-    (line 37 1 14 1697978979 ∷ []))
-    (0 ∷ []) (1 ∷ [])
-    (map-row 20 none (pos 9) false ∷ []) 4 8192
-    -- inside: 0 (0, false, 1, 0, 1)
-    ∷ steps (tables
-    (2 ∷ 3 ∷ 4 ∷ [])
-    (sym 2 (some 20) 49 section ∷ [])
-    (fun 3 2 8192 8192 1 0 ∷ [])
-    (rel 3 2 8192 32 ∷ [])
-    (insn 24 7 11 (pos 0) (negsuc 2147483647) ∷ insn 0 0 0 (pos 0) (negsuc 2) ∷ [])
-    (func 7 28 ∷ [])
-    [])
-    (1 ∷ []) (0 ∷ [])
-    (map-row 20 none (pos 10) true ∷ []) 3 8192
-    -- inside: 0 (0, false, 1, 1, 0)
-    ∷ steps (tables
-    (2 ∷ 3 ∷ 4 ∷ [])
-    (sym 2 (some 20) 48 section ∷ [])
-    (fun 2 3 0 0 0 2 ∷ [])
-    (rel 2 2 0 64 ∷ [])
-    (insn 24 3 0 (pos 0) (pos 0) ∷ insn 0 0 0 (pos 0) (negsuc 2) ∷ insn 157 2 14 (negsuc 30738) (pos 1317750887) ∷ [])
-    []
-    (line 10 1 87 196121090 ∷ line 12 2 51 2114877005 ∷ []))
-    (0 ∷ []) (2 ∷ [])
-    (map-row 20 none (pos 48) false ∷ []) 2 0
-    -- inside: 0 (0, false, 1, 1, 1)
-    ∷ steps (tables
     (3 ∷ [])
-    (sym 0 (some 21) 44 other ∷ [])
-    (fun 3 4 0 0 1 2 ∷ [])
-    (rel 3 0 16 0 ∷ [])
-    (insn 53 13 14 (negsuc 31998) (negsuc 71024620) ∷ insn 149 0 0 (pos 0) (pos 0) ∷ insn 24 5 0 (pos 0) (negsuc 2147483647) ∷ insn 0 0 0 (pos 0) (pos 0) ∷ [])
-    (func 99 18 ∷ [])
-    (line 4294967286 0 243 2240493763 ∷ line 4294967286 0 139 4025828058 ∷ []))
+    (sym 1 (some 21) 18 other ∷ [])
+    (fun 3 2 0 0 1 2 ∷ [])
+    (rel 3 1 0 64 ∷ [])
+    (insn 24 6 0 (pos 9) (pos 10) ∷ insn 0 0 0 (pos 0) (pos 0) ∷ [])
+    (func 99 49 ∷ [])
+    (line 10 0 498 3480883407 ∷ line 10 2 466 439305421 ∷ []))
     (1 ∷ []) (2 ∷ [])
-    (map-row 21 (some 0) (pos 73) true ∷ []) 3 0
-    -- inside: 0 (0, true, 0, 0, 0)
+    (map-row 21 (some 1) (pos 8) false ∷ []) 3 0
+    -- inside, accepted: nothing reached, a map set, line records
     ∷ steps (tables
-    (2 ∷ 4 ∷ [])
-    (sym 2 (some 20) 5 other ∷ sym 6 none 42 section ∷ sym 10 (some 21) 52 other ∷ sym 14 (some 2) 0 text ∷ sym 16 (some 20) 47 other ∷ [])
-    (fun 2 6 0 0 0 1 ∷ [])
-    (rel 2 6 24 0 ∷ [])
-    (insn 149 0 0 (pos 0) (pos 0) ∷ insn 44 10 4 (pos 31248) (pos 670544350) ∷ insn 5 0 0 (negsuc 1) (pos 0) ∷ insn 24 14 4 (pos 0) (negsuc 4) ∷ insn 0 0 0 (pos 0) (pos 0) ∷ insn 133 0 0 (pos 0) (pos 1) ∷ [])
+    (1 ∷ 2 ∷ [])
+    (sym 2 (some 21) 59 other ∷ [])
+    (fun 9 2 0 0 0 2 ∷ [])
+    (rel 9 2 0 0 ∷ [])
+    (insn 24 15 7 (pos 0) (pos 1860640859) ∷ insn 0 0 0 (pos 0) (pos 3) ∷ [])
     []
-    (line 0 0 363 4234366046 ∷ []))
-    (0 ∷ []) (1 ∷ [])
-    (map-row 21 (some 10) (negsuc 2068978075) true ∷ map-row 20 none (pos 4) false ∷ map-row 33 (some 16) (pos 112064273) false ∷ []) 2 0
-    -- inside: 0 (0, true, 0, 1, 1)
+    (line 0 2 15 172642389 ∷ line 0 2 153 1947679587 ∷ []))
+    (0 ∷ []) (2 ∷ [])
+    (map-row 21 (some 2) (pos 28) false ∷ []) 9 0
+    -- inside, accepted: nothing reached, a reference
     ∷ steps (tables
-    (1 ∷ 2 ∷ 4 ∷ [])
-    (sym 2 none 0 other ∷ sym 6 (some 2) 70368742084600 text ∷ sym 10 (some 2) 70370889568247 section ∷ [])
-    (fun 2 5 70368742084600 4096 2 2 ∷ [])
-    (rel 2 2 4096 64 ∷ rel 2 2 4112 32 ∷ [])
-    (insn 24 3 4 (pos 0) (negsuc 2147483647) ∷ insn 0 0 0 (pos 0) (pos 0) ∷ insn 24 4 0 (pos 9) (pos 8) ∷ insn 0 0 0 (pos 0) (pos 0) ∷ insn 5 0 0 (negsuc 1) (pos 0) ∷ [])
-    (func 7 78 ∷ func 4294967295 53 ∷ [])
-    (line 4294967286 1 297 4013969301 ∷ line 4294967288 2 149 185785787 ∷ []))
-    (2 ∷ []) (2 ∷ [])
-    (map-row 20 none (negsuc 392111138) true ∷ []) 2 70368742084600
-    -- inside: 0 (0, true, 1, 1, 0)
+    (1 ∷ [])
+    []
+    (fun 1 3 1048576 0 0 1 ∷ [])
+    []
+    (insn 149 0 0 (pos 0) (pos 0) ∷ insn 24 12 4 (pos 9) (negsuc 2147483647) ∷ insn 0 0 0 (pos 0) (negsuc 2) ∷ [])
+    []
+    (line 10 0 211 437010562 ∷ []))
+    (0 ∷ []) (1 ∷ [])
+    [] 1 1048576
+    -- inside, accepted: nothing reached, a reference, a map set, function records, line records
+    ∷ steps (tables
+    (1 ∷ [])
+    (sym 2 (some 20) 28 other ∷ sym 3 (some 1) 32 text ∷ sym 6 (some 1) 0 text ∷ [])
+    (fun 1 4 0 0 1 2 ∷ fun 1025 2 32 32 1 2 ∷ [])
+    (rel 1 2 8 64 ∷ rel 1 2 32 64 ∷ [])
+    (insn 183 1 0 (pos 0) (pos 5) ∷ insn 24 6 0 (pos 0) (pos 39) ∷ insn 0 0 0 (pos 0) (pos 0) ∷ insn 4 5 0 (negsuc 28964) (negsuc 2132001738) ∷ insn 24 15 4 (pos 0) (pos 43) ∷ insn 0 0 0 (pos 0) (pos 3) ∷ [])
+    (func 99 69 ∷ func 7 97 ∷ [])
+    (line 0 2 367 2936818591 ∷ line 0 1 428 1972746372 ∷ line 0 2 220 2536701106 ∷ line 1 1 448 3148164367 ∷ []))
+    (1 ∷ 1 ∷ []) (2 ∷ 2 ∷ [])
+    (map-row 20 none (pos 1521991889) false ∷ []) 1025 32
+    -- inside, accepted: nothing reached, a reference, a map set, line records
     ∷ steps (tables
     (1 ∷ 2 ∷ 3 ∷ [])
     (sym 1 (some 20) 28 section ∷ sym 5 (some 21) 10 other ∷ sym 8 (some 1) 4096 text ∷ sym 9 none 14 other ∷ sym 13 (some 1) 4088 section ∷ sym 14 (some 1) 4120 text ∷ [])
@@ -941,790 +908,696 @@ vectors-7 : (
     (line 10 0 436 1533252514 ∷ line 0 0 410 521682073 ∷ line 3 0 22 1240699829 ∷ line 2 0 61 3307586585 ∷ []))
     (0 ∷ 0 ∷ []) (1 ∷ 3 ∷ [])
     (map-row 21 (some 5) (pos 1490430292) true ∷ map-row 20 none (negsuc 0) false ∷ []) 1 4120
-    -- inside: 0 (0, true, 1, 1, 1)
+    -- inside, accepted: nothing reached, a reference, function records
     ∷ steps (tables
-    (1 ∷ 2 ∷ 3 ∷ [])
-    (sym 1 none 22 section ∷ sym 4 (some 21) 24 other ∷ sym 8 (some 21) 62 other ∷ sym 12 (some 1) 1048550 other ∷ [])
-    (fun 1 6 1048576 0 1 4 ∷ fun 2 3 8192 8192 1 3 ∷ [])
-    (rel 1 4 16 64 ∷ rel 1 12 40 64 ∷ [])
-    (insn 133 0 1 (pos 0) (pos 131071) ∷ insn 149 0 0 (pos 0) (pos 0) ∷ insn 24 0 0 (pos 0) (negsuc 2147483647) ∷ insn 0 0 0 (pos 0) (pos 3) ∷ insn 183 1 0 (pos 0) (pos 5) ∷ insn 133 0 1 (pos 0) (pos 26) ∷ insn 106 15 12 (negsuc 8906) (pos 1295502549) ∷ insn 24 7 4 (pos 0) (negsuc 945056181) ∷ insn 0 0 0 (pos 0) (pos 0) ∷ [])
-    (func 0 62 ∷ func 4294967295 2 ∷ [])
-    (line 0 0 185 2060869435 ∷ line 3 1 460 146718774 ∷ line 0 1 76 1001571741 ∷ line 5 0 220 3537652356 ∷ line 4294967286 2 181 181371564 ∷ line 4294967287 0 469 2024713143 ∷ line 4294967286 0 227 151986384 ∷ []))
-    (1 ∷ 1 ∷ []) (4 ∷ 3 ∷ [])
-    (map-row 33 (some 4) (pos 7) false ∷ map-row 21 (some 8) (pos 91) false ∷ []) 2 8192
-    -- inside: 0 (1, false, 0, 0, 0)
-    ∷ steps (tables
-    (2 ∷ 3 ∷ 4 ∷ [])
-    (sym 0 (some 4) 16 text ∷ sym 3 (some 20) 56 other ∷ sym 5 (some 20) 7 section ∷ sym 8 none 10 section ∷ [])
-    (fun 4 2 2 0 0 1 ∷ fun 4 4 16 16 0 0 ∷ [])
-    (rel 4 0 8 0 ∷ [])
-    (insn 249 9 12 (pos 2387) (pos 1696668033) ∷ insn 133 0 1 (pos 0) (negsuc 2147483647) ∷ insn 133 0 1 (pos 1) (pos 1) ∷ insn 5 0 0 (negsuc 1) (pos 0) ∷ insn 236 9 10 (pos 28116) (negsuc 1058023388) ∷ insn 149 0 0 (pos 0) (pos 0) ∷ [])
+    (2 ∷ 3 ∷ [])
     []
-    (line 0 2 301 321909459 ∷ []))
-    (0 ∷ 0 ∷ []) (1 ∷ 0 ∷ [])
-    (map-row 20 none (negsuc 0) true ∷ []) 4 2
+    (fun 9 4 8192 8192 1 1 ∷ [])
+    []
+    (insn 24 14 4 (pos 9) (pos 41) ∷ insn 0 0 0 (pos 0) (pos 3) ∷ insn 24 6 9 (pos 9) (negsuc 634766921) ∷ insn 0 0 0 (pos 0) (pos 0) ∷ [])
+    (func 0 83 ∷ [])
+    (line 0 0 115 3889460082 ∷ []))
+    (1 ∷ []) (1 ∷ [])
+    [] 9 8192
+    -- inside, accepted: nothing reached, a reference, function records, line records
+    ∷ steps (tables
+    (3 ∷ [])
+    []
+    (fun 3 6 0 0 1 2 ∷ [])
+    []
+    (insn 24 3 0 (pos 0) (pos 0) ∷ insn 24 7 4 (pos 0) (pos 348097815) ∷ insn 0 0 0 (pos 0) (negsuc 2) ∷ insn 133 0 1 (pos 1) (pos 1) ∷ insn 24 3 0 (pos 0) (negsuc 2147483647) ∷ insn 0 0 0 (pos 0) (pos 3) ∷ [])
+    (func 0 41 ∷ [])
+    (line 0 2 474 966591642 ∷ line 2 2 457 2549802152 ∷ []))
+    (1 ∷ []) (2 ∷ [])
+    [] 3 0
+    -- inside, accepted: nothing reached, a reference, line records
+    ∷ steps (tables
+    (3 ∷ [])
+    []
+    (fun 3 6 0 0 0 3 ∷ [])
+    []
+    (insn 5 0 0 (negsuc 1) (pos 0) ∷ insn 24 10 4 (pos 9) (pos 1155849976) ∷ insn 0 0 0 (pos 0) (pos 0) ∷ insn 149 0 0 (pos 0) (pos 0) ∷ insn 156 6 14 (pos 30631) (negsuc 1972534763) ∷ insn 149 0 0 (pos 0) (pos 0) ∷ [])
+    []
+    (line 10 0 453 2200493522 ∷ line 13 2 405 1764793998 ∷ line 11 0 382 342160239 ∷ []))
+    (0 ∷ []) (3 ∷ [])
+    [] 3 0
+    -- inside, accepted: nothing reached, function records
+    ∷ steps (tables
+    (3 ∷ [])
+    []
+    (fun 3 1 0 0 1 0 ∷ [])
+    []
+    (insn 133 0 0 (pos 0) (pos 1) ∷ [])
+    (func 7 32 ∷ [])
+    [])
+    (1 ∷ []) (0 ∷ [])
+    [] 3 0
+    -- inside, accepted: nothing reached, function records, line records
+    ∷ steps (tables
+    (3 ∷ [])
+    []
+    (fun 3 1 1048576 0 1 2 ∷ [])
+    []
+    (insn 133 0 1 (pos 1) (pos 1) ∷ [])
+    (func 4294967295 31 ∷ [])
+    (line 37 0 243 437155396 ∷ line 37 1 336 1327893415 ∷ []))
+    (1 ∷ []) (2 ∷ [])
+    [] 3 1048576
     ∷ [])
     ≡ (
-    (leaves (insn 183 1 0 (pos 0) (pos 5) ∷ []) ∷ gives (insn 183 1 0 (pos 0) (pos 5) ∷ []) (func 0 92 ∷ []) 1 (line 0 0 410 2708000066 ∷ line 0 2 492 4213729819 ∷ []) 2 ∷ [])
-    ∷ (leaves (insn 133 0 0 (pos 0) (pos 1) ∷ insn 24 0 1 (pos 0) (pos 9) ∷ insn 0 0 0 (pos 0) (negsuc 2) ∷ insn 133 0 1 (pos 1) (pos 1) ∷ []) ∷ gives (insn 133 0 0 (pos 0) (pos 1) ∷ insn 24 0 1 (pos 0) (pos 9) ∷ insn 0 0 0 (pos 0) (negsuc 2) ∷ insn 133 0 1 (pos 1) (pos 1) ∷ []) [] 0 (line 37 1 14 1697978979 ∷ []) 1 ∷ [])
-    ∷ (leaves (insn 24 7 2 (pos 0) (pos 10) ∷ insn 0 0 0 (pos 0) (negsuc 2147483598) ∷ []) ∷ gives (insn 24 7 2 (pos 0) (pos 10) ∷ insn 0 0 0 (pos 0) (negsuc 2147483598) ∷ []) (func 7 28 ∷ []) 1 [] 0 ∷ [])
-    ∷ (leaves (insn 24 3 1 (pos 0) (pos 48) ∷ insn 0 0 0 (pos 0) (negsuc 2) ∷ insn 157 2 14 (negsuc 30738) (pos 1317750887) ∷ []) ∷ gives (insn 24 3 1 (pos 0) (pos 48) ∷ insn 0 0 0 (pos 0) (negsuc 2) ∷ insn 157 2 14 (negsuc 30738) (pos 1317750887) ∷ []) [] 0 (line 10 1 87 196121090 ∷ line 12 2 51 2114877005 ∷ []) 2 ∷ [])
-    ∷ (leaves (insn 53 13 14 (negsuc 31998) (negsuc 71024620) ∷ insn 149 0 0 (pos 0) (pos 0) ∷ insn 24 5 2 (pos 0) (pos 73) ∷ insn 0 0 0 (pos 0) (negsuc 2147483603) ∷ []) ∷ gives (insn 53 13 14 (negsuc 31998) (negsuc 71024620) ∷ insn 149 0 0 (pos 0) (pos 0) ∷ insn 24 5 2 (pos 0) (pos 73) ∷ insn 0 0 0 (pos 0) (negsuc 2147483603) ∷ []) (func 99 18 ∷ []) 1 (line 4294967286 0 243 2240493763 ∷ line 4294967286 0 139 4025828058 ∷ []) 2 ∷ [])
-    ∷ (leaves (insn 149 0 0 (pos 0) (pos 0) ∷ insn 44 10 4 (pos 31248) (pos 670544350) ∷ insn 5 0 0 (negsuc 1) (pos 0) ∷ insn 24 14 4 (pos 0) (negsuc 4) ∷ insn 0 0 0 (pos 0) (pos 0) ∷ insn 133 0 0 (pos 0) (pos 1) ∷ []) ∷ gives (insn 149 0 0 (pos 0) (pos 0) ∷ insn 44 10 4 (pos 31248) (pos 670544350) ∷ insn 5 0 0 (negsuc 1) (pos 0) ∷ insn 24 14 4 (pos 0) (negsuc 4) ∷ insn 0 0 0 (pos 0) (pos 0) ∷ insn 133 0 0 (pos 0) (pos 1) ∷ []) [] 0 (line 0 0 363 4234366046 ∷ []) 1 ∷ [])
-    ∷ (leaves (insn 24 3 4 (pos 0) (negsuc 2147483647) ∷ insn 0 0 0 (pos 0) (pos 0) ∷ insn 24 4 0 (pos 9) (pos 8) ∷ insn 0 0 0 (pos 0) (pos 0) ∷ insn 5 0 0 (negsuc 1) (pos 0) ∷ []) ∷ gives (insn 24 3 4 (pos 0) (negsuc 2147483647) ∷ insn 0 0 0 (pos 0) (pos 0) ∷ insn 24 4 0 (pos 9) (pos 8) ∷ insn 0 0 0 (pos 0) (pos 0) ∷ insn 5 0 0 (negsuc 1) (pos 0) ∷ []) (func 7 78 ∷ func 4294967295 53 ∷ []) 2 (line 4294967286 1 297 4013969301 ∷ line 4294967288 2 149 185785787 ∷ []) 2 ∷ [])
+    (leaves (insn 24 6 1 (pos 9) (pos 8) ∷ insn 0 0 0 (pos 0) (pos 0) ∷ []) ∷ gives (insn 24 6 1 (pos 9) (pos 8) ∷ insn 0 0 0 (pos 0) (pos 0) ∷ []) (func 99 49 ∷ []) 1 (line 10 0 498 3480883407 ∷ line 10 2 466 439305421 ∷ []) 2 ∷ [])
+    ∷ (leaves (insn 24 15 1 (pos 0) (pos 28) ∷ insn 0 0 0 (pos 0) (pos 3) ∷ []) ∷ gives (insn 24 15 1 (pos 0) (pos 28) ∷ insn 0 0 0 (pos 0) (pos 3) ∷ []) [] 0 (line 0 2 15 172642389 ∷ line 0 2 153 1947679587 ∷ []) 2 ∷ [])
+    ∷ (leaves (insn 149 0 0 (pos 0) (pos 0) ∷ insn 24 12 4 (pos 9) (negsuc 2147483647) ∷ insn 0 0 0 (pos 0) (negsuc 2) ∷ []) ∷ gives (insn 149 0 0 (pos 0) (pos 0) ∷ insn 24 12 4 (pos 9) (negsuc 2147483647) ∷ insn 0 0 0 (pos 0) (negsuc 2) ∷ []) [] 0 (line 10 0 211 437010562 ∷ []) 1 ∷ [])
+    ∷ (leaves (insn 183 1 0 (pos 0) (pos 5) ∷ insn 24 6 1 (pos 0) (pos 1521991889) ∷ insn 0 0 0 (pos 0) (pos 0) ∷ insn 4 5 0 (negsuc 28964) (negsuc 2132001738) ∷ insn 24 15 4 (pos 0) (pos 43) ∷ insn 0 0 0 (pos 0) (pos 3) ∷ []) ∷ gives (insn 24 15 4 (pos 0) (pos 43) ∷ insn 0 0 0 (pos 0) (pos 3) ∷ []) (func 7 97 ∷ []) 1 (line 0 2 220 2536701106 ∷ line 1 1 448 3148164367 ∷ []) 2 ∷ [])
     ∷ (leaves (insn 183 1 0 (pos 0) (pos 5) ∷ insn 149 0 0 (pos 0) (pos 0) ∷ insn 24 0 2 (pos 0) (pos 1490430292) ∷ insn 0 0 0 (pos 0) (pos 41) ∷ insn 149 0 0 (pos 0) (pos 0) ∷ insn 24 0 4 (pos 0) (pos 45) ∷ insn 0 0 0 (pos 0) (negsuc 2) ∷ []) ∷ gives (insn 149 0 0 (pos 0) (pos 0) ∷ insn 24 0 2 (pos 0) (pos 1490430292) ∷ insn 0 0 0 (pos 0) (pos 41) ∷ insn 149 0 0 (pos 0) (pos 0) ∷ insn 24 0 4 (pos 0) (pos 45) ∷ insn 0 0 0 (pos 0) (negsuc 2) ∷ []) [] 0 (line 0 0 410 521682073 ∷ line 3 0 22 1240699829 ∷ line 2 0 61 3307586585 ∷ []) 3 ∷ [])
-    ∷ (leaves (insn 133 0 1 (pos 0) (pos 131071) ∷ insn 149 0 0 (pos 0) (pos 0) ∷ insn 24 0 1 (pos 0) (pos 7) ∷ insn 0 0 0 (pos 0) (pos 3) ∷ insn 183 1 0 (pos 0) (pos 5) ∷ insn 133 0 1 (pos 0) (pos 26) ∷ insn 106 15 12 (negsuc 8906) (pos 1295502549) ∷ insn 24 7 4 (pos 0) (negsuc 945056181) ∷ insn 0 0 0 (pos 0) (pos 0) ∷ []) ∷ gives (insn 106 15 12 (negsuc 8906) (pos 1295502549) ∷ insn 24 7 4 (pos 0) (negsuc 945056181) ∷ insn 0 0 0 (pos 0) (pos 0) ∷ []) (func 4294967295 2 ∷ []) 1 (line 4294967286 2 181 181371564 ∷ line 4294967287 0 469 2024713143 ∷ line 4294967286 0 227 151986384 ∷ []) 3 ∷ [])
-    ∷ (leaves (insn 249 9 12 (pos 2387) (pos 1696668033) ∷ insn 133 0 1 (pos 0) (negsuc 2147483647) ∷ insn 133 0 1 (pos 1) (pos 1) ∷ insn 5 0 0 (negsuc 1) (pos 0) ∷ insn 236 9 10 (pos 28116) (negsuc 1058023388) ∷ insn 149 0 0 (pos 0) (pos 0) ∷ []) ∷ gives (insn 249 9 12 (pos 2387) (pos 1696668033) ∷ insn 133 0 1 (pos 0) (pos 0) ∷ insn 133 0 1 (pos 1) (pos 1) ∷ insn 5 0 0 (negsuc 1) (pos 0) ∷ insn 236 9 10 (pos 28116) (negsuc 1058023388) ∷ insn 149 0 0 (pos 0) (pos 0) ∷ []) [] 0 (line 0 2 301 321909459 ∷ []) 1 ∷ [])
+    ∷ (leaves (insn 24 14 4 (pos 9) (pos 41) ∷ insn 0 0 0 (pos 0) (pos 3) ∷ insn 24 6 9 (pos 9) (negsuc 634766921) ∷ insn 0 0 0 (pos 0) (pos 0) ∷ []) ∷ gives (insn 24 14 4 (pos 9) (pos 41) ∷ insn 0 0 0 (pos 0) (pos 3) ∷ insn 24 6 9 (pos 9) (negsuc 634766921) ∷ insn 0 0 0 (pos 0) (pos 0) ∷ []) (func 0 83 ∷ []) 1 (line 0 0 115 3889460082 ∷ []) 1 ∷ [])
+    ∷ (leaves (insn 24 3 0 (pos 0) (pos 0) ∷ insn 24 7 4 (pos 0) (pos 348097815) ∷ insn 0 0 0 (pos 0) (negsuc 2) ∷ insn 133 0 1 (pos 1) (pos 1) ∷ insn 24 3 0 (pos 0) (negsuc 2147483647) ∷ insn 0 0 0 (pos 0) (pos 3) ∷ []) ∷ gives (insn 24 3 0 (pos 0) (pos 0) ∷ insn 24 7 4 (pos 0) (pos 348097815) ∷ insn 0 0 0 (pos 0) (negsuc 2) ∷ insn 133 0 1 (pos 1) (pos 1) ∷ insn 24 3 0 (pos 0) (negsuc 2147483647) ∷ insn 0 0 0 (pos 0) (pos 3) ∷ []) (func 0 41 ∷ []) 1 (line 0 2 474 966591642 ∷ line 2 2 457 2549802152 ∷ []) 2 ∷ [])
+    ∷ (leaves (insn 5 0 0 (negsuc 1) (pos 0) ∷ insn 24 10 4 (pos 9) (pos 1155849976) ∷ insn 0 0 0 (pos 0) (pos 0) ∷ insn 149 0 0 (pos 0) (pos 0) ∷ insn 156 6 14 (pos 30631) (negsuc 1972534763) ∷ insn 149 0 0 (pos 0) (pos 0) ∷ []) ∷ gives (insn 5 0 0 (negsuc 1) (pos 0) ∷ insn 24 10 4 (pos 9) (pos 1155849976) ∷ insn 0 0 0 (pos 0) (pos 0) ∷ insn 149 0 0 (pos 0) (pos 0) ∷ insn 156 6 14 (pos 30631) (negsuc 1972534763) ∷ insn 149 0 0 (pos 0) (pos 0) ∷ []) [] 0 (line 10 0 453 2200493522 ∷ line 13 2 405 1764793998 ∷ line 11 0 382 342160239 ∷ []) 3 ∷ [])
+    ∷ (leaves (insn 133 0 0 (pos 0) (pos 1) ∷ []) ∷ gives (insn 133 0 0 (pos 0) (pos 1) ∷ []) (func 7 32 ∷ []) 1 [] 0 ∷ [])
+    ∷ (leaves (insn 133 0 1 (pos 1) (pos 1) ∷ []) ∷ gives (insn 133 0 1 (pos 1) (pos 1) ∷ []) (func 4294967295 31 ∷ []) 1 (line 37 0 243 437155396 ∷ line 37 1 336 1327893415 ∷ []) 2 ∷ [])
     ∷ [])
 unfolding signed u32 u64 i32 add-u64 mul-u64 add-u32 sub-u32 add-i32 sub-i32 insn-is-call relocate-map relocate-maps relocate-functions object-relocate-maps slot-of relocate-from relocate link-new Crate.link relocate-calls crateOf both-steps
 vectors-7 = refl
 
 vectors-8 : (
-    -- inside: 0 (1, false, 0, 0, 1)
+    -- inside, accepted: nothing reached, line records
     steps (tables
-    (1 ∷ 2 ∷ 4 ∷ [])
-    (sym 0 (some 21) 12 other ∷ [])
-    (fun 4 5 35184369995768 35184369995800 2 0 ∷ fun 4 2 35184369995808 4136 1 0 ∷ [])
+    (1 ∷ 2 ∷ [])
     []
-    (insn 133 0 1 (pos 0) (pos 0) ∷ insn 24 3 0 (pos 0) (pos 0) ∷ insn 133 0 0 (pos 0) (pos 1) ∷ insn 149 0 0 (pos 0) (pos 0) ∷ insn 149 0 0 (pos 0) (pos 0) ∷ insn 149 0 0 (pos 0) (pos 0) ∷ insn 183 1 0 (pos 0) (pos 5) ∷ [])
-    (func 99 31 ∷ func 0 25 ∷ func 0 31 ∷ [])
+    (fun 1 1 1048576 0 0 2 ∷ [])
+    []
+    (insn 149 0 0 (pos 0) (pos 0) ∷ [])
+    []
+    (line 4294967286 0 122 4016860404 ∷ line 4294967286 1 260 3404237903 ∷ []))
+    (0 ∷ []) (2 ∷ [])
+    [] 1 1048576
+    -- inside, accepted: one callee reached
+    ∷ steps (tables
+    (65535 ∷ [])
+    (sym 4294967294 (some 65535) 281474976710655 text ∷ [])
+    (fun 65535 1 0 281474976710648 0 0 ∷ fun 65535 1 281474976710655 281474976710640 0 0 ∷ [])
+    (rel 65535 4294967294 281474976710648 32 ∷ [])
+    (insn 133 0 1 (pos 0) (negsuc 0) ∷ insn 149 0 0 (pos 0) (pos 0) ∷ [])
+    []
     [])
-    (2 ∷ 1 ∷ []) (0 ∷ 0 ∷ [])
-    (map-row 21 (some 0) (pos 51) true ∷ []) 4 35184369995768
-    -- inside: 0 (1, false, 0, 1, 0)
+    (0 ∷ 0 ∷ []) (0 ∷ 0 ∷ [])
+    [] 65535 0
+    -- inside, accepted: one callee reached, a map set
     ∷ steps (tables
-    (2 ∷ 3 ∷ 4 ∷ [])
-    (sym 0 (some 3) 0 text ∷ sym 1 (some 4) 4096 text ∷ sym 2 (some 4) 4068 section ∷ [])
-    (fun 3 1 0 0 0 0 ∷ fun 4 2 4096 4096 0 2 ∷ [])
-    (rel 4 0 4104 0 ∷ [])
-    (insn 149 0 0 (pos 0) (pos 0) ∷ insn 183 1 0 (pos 0) (pos 5) ∷ insn 133 0 1 (pos 0) (negsuc 2147483647) ∷ [])
+    (1 ∷ 4 ∷ [])
+    (sym 0 (some 1) 4086 section ∷ sym 2 (some 20) 23 section ∷ sym 3 (some 21) 19 other ∷ sym 7 (some 4) 0 section ∷ sym 9 (some 21) 52 other ∷ sym 10 (some 20) 47 section ∷ [])
+    (fun 1 4 4096 4096 0 0 ∷ fun 4 2 0 0 0 1 ∷ [])
+    (rel 1 7 4096 64 ∷ rel 1 2 4112 64 ∷ [])
+    (insn 133 0 1 (pos 0) (pos 0) ∷ insn 24 3 0 (pos 0) (pos 0) ∷ insn 24 4 0 (pos 0) (pos 41) ∷ insn 0 0 0 (pos 0) (pos 0) ∷ insn 24 3 0 (pos 0) (pos 0) ∷ insn 24 3 0 (pos 0) (pos 0) ∷ [])
     []
-    (line 4294967286 0 96 1405750193 ∷ line 4294967285 2 217 2044361441 ∷ []))
-    (0 ∷ 0 ∷ []) (0 ∷ 2 ∷ [])
-    (map-row 34 (some 4000000000) (pos 61) true ∷ []) 4 4096
-    -- inside: 0 (1, false, 0, 1, 1)
-    ∷ steps (tables
-    (1 ∷ 3 ∷ [])
-    (sym 2 none 50 other ∷ [])
-    (fun 1 2 137437904888 154617774080 0 0 ∷ fun 1 4 137437904904 16 1 3 ∷ [])
-    []
-    (insn 133 0 1 (pos 0) (negsuc 2147483647) ∷ insn 149 0 0 (pos 0) (pos 0) ∷ insn 133 0 1 (pos 1) (pos 1) ∷ insn 150 6 11 (negsuc 14730) (pos 1439342287) ∷ insn 133 0 1 (pos 1) (pos 1) ∷ insn 137 1 14 (pos 2826) (pos 1215757889) ∷ [])
-    (func 99 2 ∷ [])
-    (line 0 1 25 1967680383 ∷ line 0 0 443 334051299 ∷ line 3 2 139 3907474013 ∷ []))
-    (0 ∷ 1 ∷ []) (0 ∷ 3 ∷ [])
-    [] 1 137437904888
-    -- inside: 0 (1, false, 1, 0, 1)
-    ∷ steps (tables
-    (2 ∷ 3 ∷ [])
-    (sym 2 (some 3) 40 text ∷ sym 6 (some 20) 31 section ∷ sym 10 (some 3) 0 section ∷ [])
-    (fun 3 4 0 0 0 0 ∷ fun 3 1 40 40 1 0 ∷ [])
-    (rel 3 6 8 0 ∷ [])
-    (insn 121 11 14 (pos 703) (negsuc 1397829507) ∷ insn 24 7 0 (pos 9) (negsuc 1207279130) ∷ insn 0 0 0 (pos 0) (pos 3) ∷ insn 133 0 1 (pos 0) (pos 1) ∷ insn 183 1 0 (pos 0) (pos 5) ∷ [])
-    (func 0 94 ∷ [])
-    [])
-    (0 ∷ 1 ∷ []) (0 ∷ 0 ∷ [])
-    (map-row 20 none (pos 1169183969) false ∷ []) 3 0
-    -- inside: 0 (1, false, 1, 1, 0)
-    ∷ steps (tables
-    (2 ∷ 4 ∷ [])
-    (sym 0 (some 20) 7 other ∷ sym 3 (some 21) 29 other ∷ sym 6 (some 4) 0 section ∷ [])
-    (fun 4 1 0 0 0 1 ∷ fun 4 6 8 8 0 1 ∷ [])
-    (rel 4 0 24 64 ∷ [])
-    (insn 214 14 1 (pos 25051) (pos 530512940) ∷ insn 149 0 0 (pos 0) (pos 0) ∷ insn 133 0 1 (pos 1) (pos 1) ∷ insn 24 3 0 (pos 0) (negsuc 2147483647) ∷ insn 0 0 0 (pos 0) (pos 3) ∷ insn 133 0 1 (pos 0) (negsuc 5) ∷ insn 133 0 1 (pos 1) (pos 1) ∷ [])
-    []
-    (line 10 1 203 2711556672 ∷ line 0 1 464 1608883785 ∷ []))
-    (0 ∷ 0 ∷ []) (1 ∷ 1 ∷ [])
-    (map-row 21 (some 3) (pos 86) false ∷ map-row 33 (some 0) (negsuc 0) false ∷ map-row 20 none (pos 93) false ∷ []) 4 8
-    -- inside: 0 (1, false, 1, 1, 1)
-    ∷ steps (tables
-    (1 ∷ [])
-    (sym 2 (some 1) 8 section ∷ sym 3 (some 20) 44 other ∷ [])
-    (fun 1 1 0 0 0 0 ∷ fun 1 2 8 8 1 4 ∷ [])
-    (rel 1 2 0 32 ∷ rel 1 3 8 64 ∷ [])
-    (insn 133 0 1 (pos 0) (negsuc 0) ∷ insn 24 8 0 (pos 0) (negsuc 1051986815) ∷ insn 0 0 0 (pos 0) (negsuc 2) ∷ [])
-    (func 99 84 ∷ [])
-    (line 37 0 497 3830453196 ∷ line 37 2 356 2096372432 ∷ line 38 0 165 138403935 ∷ line 37 0 266 1759290689 ∷ []))
-    (0 ∷ 1 ∷ []) (0 ∷ 4 ∷ [])
-    (map-row 33 (some 3) (pos 70) false ∷ map-row 20 none (pos 1765056411) true ∷ []) 1 0
-    -- inside: 0 (1, true, 0, 0, 1)
-    ∷ steps (tables
-    (3 ∷ [])
-    (sym 1 none 46 other ∷ sym 2 (some 21) 18 other ∷ sym 3 (some 3) 8 section ∷ sym 6 (some 3) 0 text ∷ [])
-    (fun 3 2 0 0 1 1 ∷ fun 3 1 2147483655 17179869192 0 0 ∷ [])
-    (rel 3 3 0 64 ∷ [])
-    (insn 24 1 0 (pos 9) (pos 2147483647) ∷ insn 0 0 0 (pos 0) (pos 0) ∷ insn 149 0 0 (pos 0) (pos 0) ∷ [])
-    (func 4294967295 11 ∷ [])
-    (line 4294967286 0 390 1877747473 ∷ []))
-    (1 ∷ 0 ∷ []) (1 ∷ 0 ∷ [])
-    (map-row 21 (some 2) (pos 31) false ∷ []) 3 0
-    -- inside: 0 (1, true, 0, 1, 0)
-    ∷ steps (tables
-    (3 ∷ 4 ∷ [])
-    (sym 1 (some 4) 70368742084600 section ∷ sym 3 (some 21) 62 other ∷ sym 5 (some 21) 7 other ∷ sym 7 (some 4) 70368742084624 text ∷ [])
-    (fun 4 3 70368742084600 4096 0 2 ∷ fun 4 2 70368742084624 4120 0 3 ∷ [])
-    (rel 4 1 4104 32 ∷ [])
-    (insn 133 0 1 (pos 1) (pos 1) ∷ insn 24 8 0 (pos 0) (pos 2) ∷ insn 0 0 0 (pos 0) (negsuc 2) ∷ insn 5 0 0 (negsuc 1) (pos 0) ∷ insn 24 3 0 (pos 0) (pos 0) ∷ [])
-    []
-    (line 0 0 379 1952555135 ∷ line 0 0 41 3233096426 ∷ line 0 1 115 3704532724 ∷ line 0 2 288 896726887 ∷ line 0 0 208 2577790416 ∷ []))
-    (0 ∷ 0 ∷ []) (2 ∷ 3 ∷ [])
-    (map-row 21 (some 5) (pos 54) false ∷ map-row 33 (some 3) (negsuc 1248267265) false ∷ []) 4 70368742084600
-    -- inside: 0 (1, true, 0, 1, 1)
-    ∷ steps (tables
-    (3 ∷ [])
-    (sym 1 (some 3) 1048576 text ∷ sym 4 (some 3) 1048548 section ∷ [])
-    (fun 3 2 1048576 0 1 2 ∷ fun 3 1 1048592 16 1 2 ∷ [])
-    (rel 3 4 0 64 ∷ [])
-    (insn 24 5 0 (pos 0) (pos 44) ∷ insn 0 0 0 (pos 0) (negsuc 2) ∷ insn 183 1 0 (pos 0) (pos 5) ∷ [])
-    (func 7 65 ∷ func 4294967295 50 ∷ [])
-    (line 0 1 173 3073692866 ∷ line 0 0 231 815941803 ∷ line 0 1 218 3446354105 ∷ line 0 1 377 3220376727 ∷ []))
-    (1 ∷ 1 ∷ []) (2 ∷ 2 ∷ [])
-    [] 3 1048576
-    -- inside: 0 (1, true, 1, 0, 1)
+    (line 10 2 170 3066287366 ∷ []))
+    (0 ∷ 0 ∷ []) (0 ∷ 1 ∷ [])
+    (map-row 21 (some 3) (pos 330484557) true ∷ map-row 21 (some 9) (pos 51) true ∷ map-row 20 none (pos 80) false ∷ []) 1 4096
+    -- inside, accepted: one callee reached, a map set, function records
     ∷ steps (tables
     (1 ∷ 3 ∷ 4 ∷ [])
-    (sym 0 (some 4) 0 text ∷ sym 3 (some 1) 4096 text ∷ sym 6 (some 1) 4092 section ∷ sym 10 (some 4) 0 section ∷ sym 14 (some 20) 53 section ∷ sym 18 (some 20) 21 other ∷ [])
-    (fun 1 5 4096 4096 2 0 ∷ fun 4 1 0 0 0 1 ∷ [])
-    (rel 1 0 4096 64 ∷ rel 1 18 4120 0 ∷ [])
-    (insn 24 0 2 (pos 0) (negsuc 0) ∷ insn 0 0 0 (pos 0) (pos 0) ∷ insn 232 6 13 (pos 13837) (pos 1173507142) ∷ insn 24 3 0 (pos 0) (pos 29) ∷ insn 0 0 0 (pos 0) (negsuc 2) ∷ insn 149 0 0 (pos 0) (pos 0) ∷ [])
-    (func 7 61 ∷ func 7 43 ∷ [])
-    (line 4294967286 2 463 3617893346 ∷ []))
-    (2 ∷ 0 ∷ []) (0 ∷ 1 ∷ [])
-    (map-row 20 none (pos 5) true ∷ []) 1 4096
+    (sym 2 (some 20) 12 section ∷ sym 4 (some 4) 8796089892656 section ∷ [])
+    (fun 4 3 8796089884664 8192 2 0 ∷ fun 4 1 8796089884688 8813269753784 1 1 ∷ [])
+    (rel 4 2 8200 64 ∷ [])
+    (insn 19 10 4 (negsuc 27250) (negsuc 1088299080) ∷ insn 24 0 0 (pos 9) (negsuc 2147483647) ∷ insn 0 0 0 (pos 0) (negsuc 2) ∷ insn 133 0 1 (pos 0) (negsuc 2147483640) ∷ [])
+    (func 0 70 ∷ func 4294967295 76 ∷ func 0 37 ∷ [])
+    (line 0 0 477 1769822371 ∷ []))
+    (2 ∷ 1 ∷ []) (0 ∷ 1 ∷ [])
+    (map-row 20 none (pos 14) true ∷ []) 4 8796089884688
+    -- inside, accepted: one callee reached, a map set, function records, line records
+    ∷ steps (tables
+    (3 ∷ [])
+    (sym 1 (some 20) 47 other ∷ [])
+    (fun 9 1 2101248 4096 2 1 ∷ fun 9 2 2101256 4104 2 2 ∷ [])
+    (rel 9 1 4104 32 ∷ [])
+    (insn 133 0 1 (pos 0) (pos 262144) ∷ insn 24 8 0 (pos 0) (negsuc 2147483647) ∷ insn 0 0 0 (pos 0) (negsuc 2) ∷ [])
+    (func 99 27 ∷ func 7 0 ∷ func 0 48 ∷ func 99 58 ∷ [])
+    (line 37 0 354 4267751556 ∷ line 0 0 91 3814955281 ∷ line 0 1 110 680988824 ∷ []))
+    (2 ∷ 2 ∷ []) (1 ∷ 2 ∷ [])
+    (map-row 34 (some 4000000000) (pos 1158347111) false ∷ map-row 20 none (pos 53) false ∷ []) 9 2101248
+    -- inside, accepted: one callee reached, a map set, line records
+    ∷ steps (tables
+    (3 ∷ 4 ∷ [])
+    (sym 1 (some 21) 40 other ∷ sym 4 (some 3) 34358689784 text ∷ sym 5 (some 3) 36506173503 section ∷ [])
+    (fun 3 6 34358689784 0 0 2 ∷ fun 3 1 34358689855 17178820608 0 0 ∷ [])
+    (rel 3 1 16 64 ∷ [])
+    (insn 24 3 0 (pos 0) (pos 0) ∷ insn 223 13 10 (negsuc 13120) (negsuc 1468669010) ∷ insn 24 1 0 (pos 0) (negsuc 1041226000) ∷ insn 0 0 0 (pos 0) (negsuc 2) ∷ insn 133 0 0 (pos 0) (pos 1) ∷ insn 5 0 0 (negsuc 1) (pos 0) ∷ insn 133 0 1 (pos 0) (pos 2147483646) ∷ [])
+    []
+    (line 4294967286 2 497 2846729626 ∷ line 4294967289 1 43 2486000435 ∷ []))
+    (0 ∷ 0 ∷ []) (2 ∷ 0 ∷ [])
+    (map-row 21 (some 1) (pos 60) false ∷ []) 3 34358689855
+    -- inside, accepted: one callee reached, a reference
+    ∷ steps (tables
+    (3 ∷ [])
+    (sym 2 (some 3) 1048553 section ∷ sym 5 (some 20) 40 other ∷ [])
+    (fun 3 4 1048576 0 0 0 ∷ fun 3 1 2148532200 17179869192 0 0 ∷ [])
+    (rel 3 2 8 64 ∷ [])
+    (insn 149 0 0 (pos 0) (pos 0) ∷ insn 24 12 12 (pos 0) (pos 2147483647) ∷ insn 0 0 0 (pos 0) (pos 3) ∷ insn 149 0 0 (pos 0) (pos 0) ∷ insn 149 0 0 (pos 0) (pos 0) ∷ [])
+    []
+    [])
+    (0 ∷ 0 ∷ []) (0 ∷ 0 ∷ [])
+    (map-row 20 none (pos 44) true ∷ []) 3 1048576
+    -- inside, accepted: one callee reached, a reference, a map set
+    ∷ steps (tables
+    (2 ∷ 3 ∷ 4 ∷ [])
+    (sym 1 (some 2) 8232 text ∷ sym 4 (some 2) 8178 section ∷ sym 5 (some 2) 8192 text ∷ sym 7 (some 20) 50 section ∷ sym 9 (some 2) 8231 section ∷ [])
+    (fun 2 3 8192 8192 0 0 ∷ fun 2 5 8232 8232 0 0 ∷ [])
+    (rel 2 7 8192 64 ∷ rel 2 9 8232 64 ∷ rel 2 7 8248 64 ∷ [])
+    (insn 24 7 0 (pos 9) (pos 52) ∷ insn 0 0 0 (pos 0) (pos 0) ∷ insn 183 1 0 (pos 0) (pos 5) ∷ insn 24 2 0 (pos 0) (negsuc 38) ∷ insn 0 0 0 (pos 0) (pos 0) ∷ insn 24 4 0 (pos 9) (pos 20) ∷ insn 0 0 0 (pos 0) (pos 3) ∷ insn 149 0 0 (pos 0) (pos 0) ∷ [])
+    []
+    [])
+    (0 ∷ 0 ∷ []) (0 ∷ 0 ∷ [])
+    (map-row 20 none (pos 0) false ∷ []) 2 8232
+    -- inside, accepted: one callee reached, a reference, a map set, function records
+    ∷ steps (tables
+    (4 ∷ [])
+    (sym 0 (some 21) 5 other ∷ sym 2 (some 4) 0 text ∷ [])
+    (fun 4 1 0 0 1 1 ∷ fun 9 3 0 0 1 0 ∷ fun 9 4 40 40 1 0 ∷ [])
+    (rel 9 2 16 32 ∷ rel 9 0 40 0 ∷ rel 9 2 56 64 ∷ [])
+    (insn 24 3 0 (pos 0) (pos 0) ∷ insn 133 0 1 (pos 0) (pos 4) ∷ insn 133 0 1 (pos 0) (negsuc 1) ∷ insn 133 0 1 (pos 0) (pos 5) ∷ insn 24 2 0 (pos 0) (negsuc 35203493) ∷ insn 0 0 0 (pos 0) (negsuc 2) ∷ insn 24 5 10 (pos 0) (negsuc 0) ∷ insn 0 0 0 (pos 0) (pos 3) ∷ [])
+    (func 7 56 ∷ func 4294967295 50 ∷ func 0 22 ∷ [])
+    (line 4294967286 2 446 3016391141 ∷ []))
+    (1918874854 ∷ 1918874854 ∷ 1 ∷ []) (2312950181 ∷ 2312950180 ∷ 0 ∷ [])
+    (map-row 21 (some 0) (pos 199881686) true ∷ []) 9 40
+    -- inside, accepted: one callee reached, a reference, a map set, function records, line records
+    ∷ steps (tables
+    (2 ∷ [])
+    (sym 1 (some 2) 0 section ∷ sym 5 (some 2) 14 section ∷ sym 7 (some 20) 7 section ∷ sym 10 (some 2) 16 text ∷ [])
+    (fun 2 2 0 0 0 0 ∷ fun 2 2 16 16 2 2 ∷ [])
+    (rel 2 5 0 64 ∷ rel 2 7 16 64 ∷ [])
+    (insn 24 0 0 (pos 0) (pos 2) ∷ insn 0 0 0 (pos 0) (pos 3) ∷ insn 24 1 0 (pos 0) (negsuc 2147483647) ∷ insn 0 0 0 (pos 0) (pos 0) ∷ [])
+    (func 4294967295 20 ∷ func 0 90 ∷ [])
+    (line 0 1 166 3370032786 ∷ line 0 2 78 289097463 ∷ []))
+    (0 ∷ 2 ∷ []) (0 ∷ 2 ∷ [])
+    (map-row 20 none (negsuc 0) true ∷ []) 2 0
     ∷ [])
     ≡ (
-    (leaves (insn 133 0 1 (pos 0) (pos 0) ∷ insn 24 3 0 (pos 0) (pos 0) ∷ insn 133 0 0 (pos 0) (pos 1) ∷ insn 149 0 0 (pos 0) (pos 0) ∷ insn 149 0 0 (pos 0) (pos 0) ∷ insn 149 0 0 (pos 0) (pos 0) ∷ insn 183 1 0 (pos 0) (pos 5) ∷ []) ∷ gives (insn 133 0 1 (pos 0) (pos 4) ∷ insn 24 3 0 (pos 0) (pos 0) ∷ insn 133 0 0 (pos 0) (pos 1) ∷ insn 149 0 0 (pos 0) (pos 0) ∷ insn 149 0 0 (pos 0) (pos 0) ∷ insn 149 0 0 (pos 0) (pos 0) ∷ insn 183 1 0 (pos 0) (pos 5) ∷ []) (func 99 31 ∷ func 0 25 ∷ func 5 31 ∷ []) 3 [] 0 ∷ [])
-    ∷ (leaves (insn 149 0 0 (pos 0) (pos 0) ∷ insn 183 1 0 (pos 0) (pos 5) ∷ insn 133 0 1 (pos 0) (negsuc 2147483647) ∷ []) ∷ gives (insn 183 1 0 (pos 0) (pos 5) ∷ insn 133 0 1 (pos 0) (pos 0) ∷ insn 149 0 0 (pos 0) (pos 0) ∷ []) [] 0 (line 4294967286 0 96 1405750193 ∷ line 4294967285 2 217 2044361441 ∷ []) 2 ∷ [])
-    ∷ (leaves (insn 133 0 1 (pos 0) (negsuc 2147483647) ∷ insn 149 0 0 (pos 0) (pos 0) ∷ insn 133 0 1 (pos 1) (pos 1) ∷ insn 150 6 11 (negsuc 14730) (pos 1439342287) ∷ insn 133 0 1 (pos 1) (pos 1) ∷ insn 137 1 14 (pos 2826) (pos 1215757889) ∷ []) ∷ gives (insn 133 0 1 (pos 0) (pos 1) ∷ insn 149 0 0 (pos 0) (pos 0) ∷ insn 133 0 1 (pos 1) (pos 1) ∷ insn 150 6 11 (negsuc 14730) (pos 1439342287) ∷ insn 133 0 1 (pos 1) (pos 1) ∷ insn 137 1 14 (pos 2826) (pos 1215757889) ∷ []) (func 2 2 ∷ []) 1 (line 2 1 25 1967680383 ∷ line 2 0 443 334051299 ∷ line 5 2 139 3907474013 ∷ []) 3 ∷ [])
-    ∷ (leaves (insn 121 11 14 (pos 703) (negsuc 1397829507) ∷ insn 24 7 1 (pos 9) (pos 1169183969) ∷ insn 0 0 0 (pos 0) (pos 3) ∷ insn 133 0 1 (pos 0) (pos 1) ∷ insn 183 1 0 (pos 0) (pos 5) ∷ []) ∷ gives (insn 121 11 14 (pos 703) (negsuc 1397829507) ∷ insn 24 7 1 (pos 9) (pos 1169183969) ∷ insn 0 0 0 (pos 0) (pos 3) ∷ insn 133 0 1 (pos 0) (pos 0) ∷ insn 183 1 0 (pos 0) (pos 5) ∷ []) (func 4 94 ∷ []) 1 [] 0 ∷ [])
-    ∷ (leaves (insn 214 14 1 (pos 25051) (pos 530512940) ∷ insn 149 0 0 (pos 0) (pos 0) ∷ insn 133 0 1 (pos 1) (pos 1) ∷ insn 24 3 1 (pos 0) (negsuc 0) ∷ insn 0 0 0 (pos 0) (pos 3) ∷ insn 133 0 1 (pos 0) (negsuc 5) ∷ insn 133 0 1 (pos 1) (pos 1) ∷ []) ∷ gives (insn 149 0 0 (pos 0) (pos 0) ∷ insn 133 0 1 (pos 1) (pos 1) ∷ insn 24 3 1 (pos 0) (negsuc 0) ∷ insn 0 0 0 (pos 0) (pos 3) ∷ insn 133 0 1 (pos 0) (pos 1) ∷ insn 133 0 1 (pos 1) (pos 1) ∷ insn 214 14 1 (pos 25051) (pos 530512940) ∷ []) [] 0 (line 0 1 464 1608883785 ∷ line 6 1 203 2711556672 ∷ []) 2 ∷ [])
-    ∷ (leaves (insn 133 0 1 (pos 0) (negsuc 0) ∷ insn 24 8 1 (pos 0) (pos 70) ∷ insn 0 0 0 (pos 0) (negsuc 2) ∷ []) ∷ gives (insn 133 0 1 (pos 0) (pos 0) ∷ insn 24 8 1 (pos 0) (pos 70) ∷ insn 0 0 0 (pos 0) (negsuc 2) ∷ []) (func 1 84 ∷ []) 1 (line 1 0 497 3830453196 ∷ line 1 2 356 2096372432 ∷ line 2 0 165 138403935 ∷ line 1 0 266 1759290689 ∷ []) 4 ∷ [])
-    ∷ (leaves (insn 24 1 0 (pos 9) (pos 2147483647) ∷ insn 0 0 0 (pos 0) (pos 0) ∷ insn 149 0 0 (pos 0) (pos 0) ∷ []) ∷ gives (insn 24 1 4 (pos 9) (pos 1) ∷ insn 0 0 0 (pos 0) (pos 0) ∷ insn 149 0 0 (pos 0) (pos 0) ∷ []) (func 4294967295 11 ∷ []) 1 (line 4294967286 0 390 1877747473 ∷ []) 1 ∷ [])
-    ∷ (leaves (insn 133 0 1 (pos 1) (pos 1) ∷ insn 24 8 0 (pos 0) (pos 2) ∷ insn 0 0 0 (pos 0) (negsuc 2) ∷ insn 5 0 0 (negsuc 1) (pos 0) ∷ insn 24 3 0 (pos 0) (pos 0) ∷ []) ∷ gives (insn 133 0 1 (pos 1) (pos 1) ∷ insn 24 8 4 (pos 0) (pos 1) ∷ insn 0 0 0 (pos 0) (negsuc 2) ∷ insn 5 0 0 (negsuc 1) (pos 0) ∷ insn 24 3 0 (pos 0) (pos 0) ∷ []) [] 0 (line 0 0 379 1952555135 ∷ line 0 0 41 3233096426 ∷ line 3 1 115 3704532724 ∷ line 3 2 288 896726887 ∷ line 3 0 208 2577790416 ∷ []) 5 ∷ [])
-    ∷ (leaves (insn 24 5 0 (pos 0) (pos 44) ∷ insn 0 0 0 (pos 0) (negsuc 2) ∷ insn 183 1 0 (pos 0) (pos 5) ∷ []) ∷ gives (insn 24 5 4 (pos 0) (pos 1) ∷ insn 0 0 0 (pos 0) (negsuc 2) ∷ insn 183 1 0 (pos 0) (pos 5) ∷ []) (func 7 65 ∷ func 2 50 ∷ []) 2 (line 0 1 173 3073692866 ∷ line 0 0 231 815941803 ∷ line 2 1 218 3446354105 ∷ line 2 1 377 3220376727 ∷ []) 4 ∷ [])
-    ∷ (leaves (insn 24 0 2 (pos 0) (negsuc 0) ∷ insn 0 0 0 (pos 0) (pos 0) ∷ insn 232 6 13 (pos 13837) (pos 1173507142) ∷ insn 24 3 2 (pos 0) (pos 5) ∷ insn 0 0 0 (pos 0) (pos 50) ∷ insn 149 0 0 (pos 0) (pos 0) ∷ []) ∷ gives (insn 24 0 4 (pos 0) (pos 4) ∷ insn 0 0 0 (pos 0) (pos 0) ∷ insn 232 6 13 (pos 13837) (pos 1173507142) ∷ insn 24 3 2 (pos 0) (pos 5) ∷ insn 0 0 0 (pos 0) (pos 50) ∷ insn 149 0 0 (pos 0) (pos 0) ∷ []) (func 7 61 ∷ func 7 43 ∷ []) 2 (line 5 2 463 3617893346 ∷ []) 1 ∷ [])
+    (leaves (insn 149 0 0 (pos 0) (pos 0) ∷ []) ∷ gives (insn 149 0 0 (pos 0) (pos 0) ∷ []) [] 0 (line 4294967286 0 122 4016860404 ∷ line 4294967286 1 260 3404237903 ∷ []) 2 ∷ [])
+    ∷ (leaves (insn 133 0 1 (pos 0) (negsuc 0) ∷ insn 149 0 0 (pos 0) (pos 0) ∷ []) ∷ gives (insn 133 0 1 (pos 0) (pos 0) ∷ insn 149 0 0 (pos 0) (pos 0) ∷ []) [] 0 [] 0 ∷ [])
+    ∷ (leaves (insn 133 0 1 (pos 0) (pos 0) ∷ insn 24 3 0 (pos 0) (pos 0) ∷ insn 24 4 1 (pos 0) (pos 80) ∷ insn 0 0 0 (pos 0) (pos 0) ∷ insn 24 3 0 (pos 0) (pos 0) ∷ insn 24 3 0 (pos 0) (pos 0) ∷ []) ∷ gives (insn 133 0 1 (pos 0) (pos 3) ∷ insn 24 3 0 (pos 0) (pos 0) ∷ insn 24 4 1 (pos 0) (pos 80) ∷ insn 0 0 0 (pos 0) (pos 0) ∷ insn 24 3 0 (pos 0) (pos 0) ∷ insn 24 3 0 (pos 0) (pos 0) ∷ []) [] 0 (line 4 2 170 3066287366 ∷ []) 1 ∷ [])
+    ∷ (leaves (insn 19 10 4 (negsuc 27250) (negsuc 1088299080) ∷ insn 24 0 2 (pos 9) (pos 14) ∷ insn 0 0 0 (pos 0) (negsuc 2147483635) ∷ insn 133 0 1 (pos 0) (negsuc 2147483640) ∷ []) ∷ gives (insn 133 0 1 (pos 0) (pos 0) ∷ insn 19 10 4 (negsuc 27250) (negsuc 1088299080) ∷ insn 24 0 2 (pos 9) (pos 14) ∷ insn 0 0 0 (pos 0) (negsuc 2147483635) ∷ []) (func 0 37 ∷ func 1 70 ∷ func 1 76 ∷ []) 3 (line 0 0 477 1769822371 ∷ []) 1 ∷ [])
+    ∷ (leaves (insn 133 0 1 (pos 0) (pos 262144) ∷ insn 24 8 1 (pos 0) (pos 53) ∷ insn 0 0 0 (pos 0) (negsuc 2) ∷ []) ∷ gives (insn 133 0 1 (pos 0) (pos 0) ∷ insn 24 8 1 (pos 0) (pos 53) ∷ insn 0 0 0 (pos 0) (negsuc 2) ∷ []) (func 99 27 ∷ func 7 0 ∷ func 1 48 ∷ func 1 58 ∷ []) 4 (line 37 0 354 4267751556 ∷ line 1 0 91 3814955281 ∷ line 1 1 110 680988824 ∷ []) 3 ∷ [])
+    ∷ (leaves (insn 24 3 0 (pos 0) (pos 0) ∷ insn 223 13 10 (negsuc 13120) (negsuc 1468669010) ∷ insn 24 1 1 (pos 0) (pos 60) ∷ insn 0 0 0 (pos 0) (negsuc 2) ∷ insn 133 0 0 (pos 0) (pos 1) ∷ insn 5 0 0 (negsuc 1) (pos 0) ∷ insn 133 0 1 (pos 0) (pos 2147483646) ∷ []) ∷ gives (insn 133 0 1 (pos 0) (pos 0) ∷ insn 24 3 0 (pos 0) (pos 0) ∷ insn 223 13 10 (negsuc 13120) (negsuc 1468669010) ∷ insn 24 1 1 (pos 0) (pos 60) ∷ insn 0 0 0 (pos 0) (negsuc 2) ∷ insn 133 0 0 (pos 0) (pos 1) ∷ insn 5 0 0 (negsuc 1) (pos 0) ∷ []) [] 0 (line 1 2 497 2846729626 ∷ line 4 1 43 2486000435 ∷ []) 2 ∷ [])
+    ∷ (leaves (insn 149 0 0 (pos 0) (pos 0) ∷ insn 24 12 12 (pos 0) (pos 2147483647) ∷ insn 0 0 0 (pos 0) (pos 3) ∷ insn 149 0 0 (pos 0) (pos 0) ∷ insn 149 0 0 (pos 0) (pos 0) ∷ []) ∷ gives (insn 149 0 0 (pos 0) (pos 0) ∷ insn 24 12 4 (pos 0) (pos 2) ∷ insn 0 0 0 (pos 0) (pos 3) ∷ insn 149 0 0 (pos 0) (pos 0) ∷ insn 149 0 0 (pos 0) (pos 0) ∷ []) [] 0 [] 0 ∷ [])
+    ∷ (leaves (insn 24 7 1 (pos 9) (pos 0) ∷ insn 0 0 0 (pos 0) (pos 0) ∷ insn 183 1 0 (pos 0) (pos 5) ∷ insn 24 2 0 (pos 0) (negsuc 38) ∷ insn 0 0 0 (pos 0) (pos 0) ∷ insn 24 4 1 (pos 9) (pos 0) ∷ insn 0 0 0 (pos 0) (pos 3) ∷ insn 149 0 0 (pos 0) (pos 0) ∷ []) ∷ gives (insn 24 2 4 (pos 0) (pos 4) ∷ insn 0 0 0 (pos 0) (pos 0) ∷ insn 24 4 1 (pos 9) (pos 0) ∷ insn 0 0 0 (pos 0) (pos 3) ∷ insn 149 0 0 (pos 0) (pos 0) ∷ insn 24 7 1 (pos 9) (pos 0) ∷ insn 0 0 0 (pos 0) (pos 0) ∷ insn 183 1 0 (pos 0) (pos 5) ∷ []) [] 0 [] 0 ∷ [])
+    ∷ (leaves (insn 24 3 0 (pos 0) (pos 0) ∷ insn 133 0 1 (pos 0) (pos 4) ∷ insn 133 0 1 (pos 0) (negsuc 1) ∷ insn 133 0 1 (pos 0) (pos 5) ∷ insn 24 2 2 (pos 0) (pos 199881686) ∷ insn 0 0 0 (pos 0) (negsuc 35203488) ∷ insn 24 5 10 (pos 0) (negsuc 0) ∷ insn 0 0 0 (pos 0) (pos 3) ∷ []) ∷ gives (insn 24 2 2 (pos 0) (pos 199881686) ∷ insn 0 0 0 (pos 0) (negsuc 35203488) ∷ insn 24 5 4 (pos 0) (pos 1) ∷ insn 0 0 0 (pos 0) (pos 3) ∷ insn 24 3 0 (pos 0) (pos 0) ∷ []) (func 0 22 ∷ func 4 56 ∷ []) 2 (line 4 2 446 3016391141 ∷ []) 1 ∷ [])
+    ∷ (leaves (insn 24 0 0 (pos 0) (pos 2) ∷ insn 0 0 0 (pos 0) (pos 3) ∷ insn 24 1 2 (pos 0) (negsuc 0) ∷ insn 0 0 0 (pos 0) (negsuc 2147483640) ∷ []) ∷ gives (insn 24 0 4 (pos 0) (pos 1) ∷ insn 0 0 0 (pos 0) (pos 3) ∷ insn 24 1 2 (pos 0) (negsuc 0) ∷ insn 0 0 0 (pos 0) (negsuc 2147483640) ∷ []) (func 2 20 ∷ func 2 90 ∷ []) 2 (line 2 1 166 3370032786 ∷ line 2 2 78 289097463 ∷ []) 2 ∷ [])
     ∷ [])
 unfolding signed u32 u64 i32 add-u64 mul-u64 add-u32 sub-u32 add-i32 sub-i32 insn-is-call relocate-map relocate-maps relocate-functions object-relocate-maps slot-of relocate-from relocate link-new Crate.link relocate-calls crateOf both-steps
 vectors-8 = refl
 
 vectors-9 : (
-    -- inside: 0 (1, true, 1, 1, 0)
+    -- inside, accepted: one callee reached, a reference, a map set, line records
     steps (tables
-    (4 ∷ [])
-    (sym 1 (some 4) 1048562 section ∷ sym 4 (some 20) 27 other ∷ sym 7 (some 4) 1048570 section ∷ [])
-    (fun 4 2 1048576 0 0 2 ∷ fun 4 6 1048592 16 0 4 ∷ [])
-    (rel 4 7 16 64 ∷ rel 4 4 40 64 ∷ [])
-    (insn 133 0 1 (pos 1) (pos 1) ∷ insn 149 0 0 (pos 0) (pos 0) ∷ insn 24 6 0 (pos 0) (pos 6) ∷ insn 0 0 0 (pos 0) (pos 0) ∷ insn 149 0 0 (pos 0) (pos 0) ∷ insn 24 5 0 (pos 0) (pos 28) ∷ insn 0 0 0 (pos 0) (pos 0) ∷ insn 5 0 0 (negsuc 1) (pos 0) ∷ [])
+    (3 ∷ [])
+    (sym 2 (some 21) 43 other ∷ sym 3 (some 21) 6 other ∷ sym 5 (some 3) 549754765328 text ∷ sym 8 (some 20) 22 section ∷ sym 9 (some 20) 6 section ∷ [])
+    (fun 3 3 549754765304 0 0 1 ∷ fun 3 4 549754765328 24 0 2 ∷ [])
+    (rel 3 5 0 0 ∷ rel 3 3 24 64 ∷ [])
+    (insn 24 1 1 (pos 9) (negsuc 0) ∷ insn 0 0 0 (pos 0) (pos 0) ∷ insn 26 10 0 (negsuc 11672) (negsuc 112745285) ∷ insn 24 1 0 (pos 9) (pos 53) ∷ insn 0 0 0 (pos 0) (negsuc 2) ∷ insn 85 8 11 (pos 5698) (pos 2102365116) ∷ insn 133 15 9 (pos 30583) (pos 1094019166) ∷ [])
     []
-    (line 0 0 412 1039413228 ∷ line 0 0 344 48844220 ∷ line 37 2 162 1808269499 ∷ line 38 1 83 2241103220 ∷ line 38 0 463 1426118047 ∷ line 40 1 24 1775897301 ∷ []))
-    (0 ∷ 0 ∷ []) (2 ∷ 4 ∷ [])
-    (map-row 20 none (negsuc 0) true ∷ map-row 33 (some 4) (negsuc 1299928106) true ∷ []) 4 1048592
-    -- inside: 0 (1, true, 1, 1, 1)
+    (line 0 0 280 3619366252 ∷ line 10 2 17 581876160 ∷ line 10 1 287 381400425 ∷ []))
+    (0 ∷ 0 ∷ []) (1 ∷ 2 ∷ [])
+    (map-row 21 (some 3) (pos 31) false ∷ map-row 21 (some 2) (pos 34) false ∷ map-row 20 none (negsuc 0) true ∷ []) 3 549754765304
+    -- inside, accepted: one callee reached, a reference, function records
     ∷ steps (tables
-    (2 ∷ 3 ∷ [])
-    (sym 2 (some 20) 2 other ∷ sym 6 (some 3) 0 section ∷ sym 8 (some 3) 0 text ∷ [])
-    (fun 3 1 0 0 1 1 ∷ fun 3 5 8 8 1 3 ∷ [])
-    (rel 3 8 8 0 ∷ rel 3 2 24 32 ∷ [])
-    (insn 149 0 0 (pos 0) (pos 0) ∷ insn 24 8 0 (pos 0) (pos 2147483647) ∷ insn 0 0 0 (pos 0) (pos 3) ∷ insn 24 0 0 (pos 0) (pos 29) ∷ insn 0 0 0 (pos 0) (pos 0) ∷ insn 24 3 0 (pos 0) (pos 0) ∷ [])
-    (func 4294967295 85 ∷ func 4294967295 21 ∷ [])
-    (line 4294967286 1 142 1425282080 ∷ line 37 0 495 1902255993 ∷ line 39 1 141 3271004830 ∷ line 40 0 157 1089463441 ∷ []))
-    (1 ∷ 1 ∷ []) (1 ∷ 3 ∷ [])
-    (map-row 20 none (pos 26) true ∷ map-row 33 (some 2) (pos 1700517832) true ∷ []) 3 8
-    -- inside: 0 (2, false, 0, 0, 0)
+    (2 ∷ 4 ∷ [])
+    (sym 2 (some 2) 0 section ∷ sym 6 (some 2) 0 text ∷ [])
+    (fun 2 2 0 0 1 1 ∷ fun 2 1 2147483647 17179869192 0 0 ∷ [])
+    (rel 2 2 0 64 ∷ [])
+    (insn 24 0 0 (pos 9) (pos 2147483647) ∷ insn 0 0 0 (pos 0) (negsuc 2) ∷ insn 149 0 0 (pos 0) (pos 0) ∷ [])
+    (func 4294967295 57 ∷ [])
+    (line 10 1 312 4084089457 ∷ []))
+    (1 ∷ 0 ∷ []) (1 ∷ 0 ∷ [])
+    (map-row 20 none (pos 2087024334) false ∷ []) 2 0
+    -- inside, accepted: one callee reached, a reference, function records, line records
+    ∷ steps (tables
+    (1 ∷ 3 ∷ [])
+    (sym 2 (some 3) 0 section ∷ [])
+    (fun 3 3 0 0 1 3 ∷ fun 3 1 2147483647 17179869192 0 0 ∷ [])
+    (rel 3 2 8 64 ∷ [])
+    (insn 5 0 0 (negsuc 1) (pos 0) ∷ insn 24 6 0 (pos 9) (pos 2147483647) ∷ insn 0 0 0 (pos 0) (pos 0) ∷ insn 149 0 0 (pos 0) (pos 0) ∷ [])
+    (func 7 16 ∷ [])
+    (line 0 2 383 3553711368 ∷ line 1 2 86 1440675402 ∷ line 1 0 366 3874733974 ∷ []))
+    (1 ∷ 0 ∷ []) (3 ∷ 0 ∷ [])
+    (map-row 20 none (pos 52) false ∷ []) 3 0
+    -- inside, accepted: one callee reached, a reference, line records
+    ∷ steps (tables
+    (3 ∷ 4 ∷ [])
+    (sym 1 (some 3) 0 section ∷ sym 5 (some 21) 18 other ∷ [])
+    (fun 3 2 0 0 0 2 ∷ fun 3 1 2147483647 17179869192 0 0 ∷ [])
+    (rel 3 1 0 64 ∷ [])
+    (insn 24 1 0 (pos 9) (pos 2147483647) ∷ insn 0 0 0 (pos 0) (pos 0) ∷ insn 149 0 0 (pos 0) (pos 0) ∷ [])
+    []
+    (line 37 1 404 2619889910 ∷ line 37 2 104 3944623834 ∷ []))
+    (0 ∷ 2354151703 ∷ []) (2 ∷ 175721788 ∷ [])
+    (map-row 34 (some 4000000000) (negsuc 0) true ∷ map-row 21 (some 5) (pos 71) true ∷ []) 3 0
+    -- inside, accepted: one callee reached, function records
     ∷ steps (tables
     (1 ∷ [])
-    (sym 2 (some 1) 0 section ∷ [])
-    (fun 1 1 0 0 0 0 ∷ [])
+    (sym 2 (some 1) 0 text ∷ sym 6 (some 1) 8 text ∷ [])
+    (fun 1 1 0 0 1 0 ∷ fun 1 6 8 8 1 0 ∷ [])
     []
-    (insn 133 0 1 (pos 0) (negsuc 0) ∷ [])
+    (insn 133 0 1 (pos 0) (pos 0) ∷ insn 24 3 0 (pos 0) (pos 0) ∷ insn 5 0 0 (negsuc 1) (pos 0) ∷ insn 183 1 0 (pos 0) (pos 5) ∷ insn 180 1 0 (negsuc 30898) (negsuc 373356474) ∷ insn 5 0 0 (negsuc 1) (pos 0) ∷ insn 133 0 1 (pos 1) (pos 1) ∷ [])
+    (func 99 97 ∷ func 99 26 ∷ [])
+    [])
+    (1 ∷ 1 ∷ []) (0 ∷ 0 ∷ [])
+    [] 1 0
+    -- inside, accepted: one callee reached, function records, line records
+    ∷ steps (tables
+    (3 ∷ [])
+    []
+    (fun 3 1 35184371040248 0 1 2 ∷ fun 3 5 35184371040256 35201550909424 1 0 ∷ [])
+    []
+    (insn 133 0 0 (pos 0) (pos 1) ∷ insn 133 0 1 (pos 0) (negsuc 2147483647) ∷ insn 183 1 0 (pos 0) (pos 5) ∷ insn 187 15 11 (pos 18868) (negsuc 1562063084) ∷ insn 133 0 0 (pos 0) (pos 1) ∷ insn 24 3 0 (pos 0) (pos 0) ∷ [])
+    (func 0 12 ∷ func 4294967295 51 ∷ [])
+    (line 10 0 244 2556298316 ∷ line 10 2 122 2759363560 ∷ []))
+    (3728828424 ∷ 1 ∷ []) (2493084277 ∷ 0 ∷ [])
+    [] 3 35184371040256
+    -- inside, accepted: one callee reached, line records
+    ∷ steps (tables
+    (1 ∷ [])
+    (sym 0 (some 1) 68718428192 text ∷ [])
+    (fun 1 4 68718428152 0 0 2 ∷ fun 1 3 68718428192 85898297328 0 0 ∷ [])
+    []
+    (insn 24 8 0 (pos 0) (negsuc 2147483647) ∷ insn 0 0 0 (pos 0) (pos 0) ∷ insn 149 0 0 (pos 0) (pos 0) ∷ insn 5 0 0 (negsuc 1) (pos 0) ∷ insn 133 0 1 (pos 0) (negsuc 2147483647) ∷ insn 149 0 0 (pos 0) (pos 0) ∷ insn 133 0 1 (pos 1) (pos 1) ∷ [])
+    []
+    (line 0 2 12 3355339953 ∷ line 1 0 346 2549382308 ∷ []))
+    (0 ∷ 0 ∷ []) (2 ∷ 0 ∷ [])
+    (map-row 34 (some 4000000000) (negsuc 0) false ∷ []) 1 68718428192
+    -- inside, refused by 10: callees reached
+    ∷ steps (tables
+    (1 ∷ [])
+    (sym 2 (some 21) 55 other ∷ sym 4 (some 1) 0 text ∷ sym 7 (some 1) 0 section ∷ [])
+    (fun 1 2 0 0 0 1 ∷ [])
+    []
+    (insn 133 0 1 (pos 0) (negsuc 0) ∷ insn 133 0 1 (pos 0) (negsuc 2147483647) ∷ [])
+    []
+    (line 0 0 190 3481430051 ∷ []))
+    (0 ∷ []) (1 ∷ [])
+    (map-row 33 (some 2) (pos 36) false ∷ []) 1 0
+    -- inside, refused by 10: callees reached, a map set
+    ∷ steps (tables
+    (3 ∷ [])
+    (sym 2 (some 3) 1048576 text ∷ sym 5 (some 20) 3 section ∷ [])
+    (fun 3 5 1048576 0 0 0 ∷ [])
+    (rel 3 5 0 0 ∷ rel 3 2 16 0 ∷ [])
+    (insn 24 0 0 (pos 0) (pos 45) ∷ insn 0 0 0 (pos 0) (negsuc 2) ∷ insn 133 0 1 (pos 0) (negsuc 76) ∷ insn 149 0 0 (pos 0) (pos 0) ∷ insn 133 0 1 (pos 0) (pos 131107) ∷ [])
     []
     [])
     (0 ∷ []) (0 ∷ [])
-    (map-row 25 none (pos 25) true ∷ []) 1 0
-    -- inside: 0 (2, false, 0, 0, 1)
-    ∷ steps (tables
-    (1 ∷ 4 ∷ [])
-    []
-    (fun 9 1 70368741040120 70385920909240 1 1 ∷ [])
-    []
-    (insn 133 0 1 (pos 0) (negsuc 2147483640) ∷ [])
-    (func 4294967295 7 ∷ [])
-    (line 10 2 369 382506966 ∷ []))
-    (1 ∷ []) (1 ∷ [])
-    [] 9 70368741040120
-    -- inside: 0 (2, false, 0, 1, 0)
-    ∷ steps (tables
-    (4 ∷ [])
-    (sym 2 (some 4) 0 text ∷ [])
-    (fun 4 1 0 0 0 2 ∷ [])
-    []
-    (insn 133 0 1 (pos 0) (negsuc 0) ∷ [])
-    []
-    (line 10 2 45 2031485521 ∷ line 10 1 231 1896630789 ∷ []))
-    (0 ∷ []) (2 ∷ [])
-    [] 4 0
-    -- inside: 0 (2, false, 0, 1, 1)
-    ∷ steps (tables
-    (2 ∷ 3 ∷ 4 ∷ [])
-    []
-    (fun 2 2 34357645304 17177776128 1 2 ∷ [])
-    []
-    (insn 133 0 1 (pos 0) (pos 2147483646) ∷ insn 0 0 0 (pos 0) (pos 0) ∷ [])
-    (func 4294967295 57 ∷ [])
-    (line 0 1 119 2473162168 ∷ line 0 0 156 365891806 ∷ []))
-    (1 ∷ []) (2 ∷ [])
-    [] 2 34357645304
-    -- inside: 0 (2, false, 1, 0, 0)
-    ∷ steps (tables
-    (1 ∷ 2 ∷ 3 ∷ [])
-    (sym 1 (some 21) 28 other ∷ [])
-    (fun 1 6 0 0 0 0 ∷ [])
-    (rel 1 1 8 0 ∷ [])
-    (insn 133 0 1 (pos 0) (negsuc 0) ∷ insn 24 4 0 (pos 0) (negsuc 2147483647) ∷ insn 0 0 0 (pos 0) (negsuc 2) ∷ insn 133 0 1 (pos 0) (negsuc 3) ∷ insn 133 0 0 (pos 0) (pos 1) ∷ insn 244 4 1 (negsuc 16270) (negsuc 38852995) ∷ [])
-    []
-    [])
-    (0 ∷ []) (0 ∷ [])
-    (map-row 21 (some 1) (pos 33) true ∷ map-row 25 none (negsuc 0) true ∷ []) 1 0
-    -- inside: 0 (2, false, 1, 0, 1)
-    ∷ steps (tables
-    (2 ∷ 3 ∷ [])
-    (sym 2 (some 21) 41 other ∷ [])
-    (fun 2 4 0 0 2 0 ∷ [])
-    (rel 2 2 0 64 ∷ [])
-    (insn 24 12 2 (pos 0) (pos 3) ∷ insn 0 0 0 (pos 0) (pos 0) ∷ insn 133 0 1 (pos 0) (negsuc 2) ∷ insn 24 3 0 (pos 0) (pos 0) ∷ [])
-    (func 99 46 ∷ func 99 24 ∷ [])
-    [])
-    (2 ∷ []) (0 ∷ [])
-    (map-row 33 (some 2) (pos 1349530090) true ∷ []) 2 0
-    -- inside: 0 (2, false, 1, 1, 0)
+    (map-row 20 none (pos 99) false ∷ []) 3 1048576
+    -- inside, refused by 10: callees reached, a map set, function records
     ∷ steps (tables
     (2 ∷ [])
-    (sym 1 (some 2) 0 section ∷ sym 2 (some 20) 20 section ∷ [])
-    (fun 2 5 0 0 0 2 ∷ [])
-    (rel 2 2 8 64 ∷ [])
-    (insn 183 1 0 (pos 0) (pos 5) ∷ insn 24 0 0 (pos 0) (pos 46) ∷ insn 0 0 0 (pos 0) (pos 3) ∷ insn 24 3 0 (pos 0) (pos 0) ∷ insn 133 0 1 (pos 0) (negsuc 4) ∷ [])
-    []
-    (line 4294967286 1 339 3141114343 ∷ line 4294967289 2 260 2442716985 ∷ []))
-    (0 ∷ []) (2 ∷ [])
-    (map-row 20 none (pos 20) true ∷ []) 2 0
-    -- inside: 0 (2, false, 1, 1, 1)
-    ∷ steps (tables
-    (4 ∷ [])
-    (sym 1 (some 20) 1 other ∷ [])
-    (fun 4 4 1048576 0 1 2 ∷ [])
-    (rel 4 1 8 64 ∷ [])
-    (insn 243 2 2 (negsuc 14008) (pos 200828403) ∷ insn 24 4 0 (pos 0) (pos 49) ∷ insn 0 0 0 (pos 0) (pos 0) ∷ insn 133 0 1 (pos 0) (pos 131068) ∷ [])
-    (func 7 55 ∷ [])
-    (line 0 1 350 3797380722 ∷ line 1 0 110 2105191085 ∷ []))
-    (1 ∷ []) (2 ∷ [])
-    (map-row 20 none (negsuc 0) true ∷ []) 4 1048576
+    (sym 2 (some 2) 1048568 section ∷ sym 6 (some 2) 1048576 text ∷ sym 8 (some 20) 24 section ∷ [])
+    (fun 2 5 1048576 0 1 0 ∷ [])
+    (rel 2 8 16 64 ∷ [])
+    (insn 133 0 1 (pos 0) (pos 131071) ∷ insn 133 0 1 (pos 0) (pos 77) ∷ insn 24 2 0 (pos 0) (pos 3) ∷ insn 0 0 0 (pos 0) (negsuc 2) ∷ insn 24 3 0 (pos 0) (pos 0) ∷ [])
+    (func 4294967295 86 ∷ [])
+    [])
+    (1 ∷ []) (0 ∷ [])
+    (map-row 20 none (pos 95) false ∷ []) 2 1048576
     ∷ [])
     ≡ (
-    (leaves (insn 133 0 1 (pos 1) (pos 1) ∷ insn 149 0 0 (pos 0) (pos 0) ∷ insn 24 6 0 (pos 0) (pos 6) ∷ insn 0 0 0 (pos 0) (pos 0) ∷ insn 149 0 0 (pos 0) (pos 0) ∷ insn 24 5 2 (pos 0) (negsuc 1299928106) ∷ insn 0 0 0 (pos 0) (pos 55) ∷ insn 5 0 0 (negsuc 1) (pos 0) ∷ []) ∷ gives (insn 24 6 4 (pos 0) (pos 5) ∷ insn 0 0 0 (pos 0) (pos 0) ∷ insn 149 0 0 (pos 0) (pos 0) ∷ insn 24 5 2 (pos 0) (negsuc 1299928106) ∷ insn 0 0 0 (pos 0) (pos 55) ∷ insn 5 0 0 (negsuc 1) (pos 0) ∷ insn 133 0 1 (pos 1) (pos 1) ∷ insn 149 0 0 (pos 0) (pos 0) ∷ []) [] 0 (line 37 2 162 1808269499 ∷ line 38 1 83 2241103220 ∷ line 38 0 463 1426118047 ∷ line 40 1 24 1775897301 ∷ line 6 0 412 1039413228 ∷ line 6 0 344 48844220 ∷ []) 6 ∷ [])
-    ∷ (leaves (insn 149 0 0 (pos 0) (pos 0) ∷ insn 24 8 0 (pos 0) (pos 2147483647) ∷ insn 0 0 0 (pos 0) (pos 3) ∷ insn 24 0 2 (pos 0) (pos 1700517832) ∷ insn 0 0 0 (pos 0) (pos 31) ∷ insn 24 3 0 (pos 0) (pos 0) ∷ []) ∷ gives (insn 24 8 4 (pos 0) (pos 4) ∷ insn 0 0 0 (pos 0) (pos 3) ∷ insn 24 0 2 (pos 0) (pos 1700517832) ∷ insn 0 0 0 (pos 0) (pos 31) ∷ insn 24 3 0 (pos 0) (pos 0) ∷ insn 149 0 0 (pos 0) (pos 0) ∷ []) (func 4294967295 21 ∷ func 5 85 ∷ []) 2 (line 37 0 495 1902255993 ∷ line 39 1 141 3271004830 ∷ line 40 0 157 1089463441 ∷ line 5 1 142 1425282080 ∷ []) 4 ∷ [])
-    ∷ (leaves (insn 133 0 1 (pos 0) (negsuc 0) ∷ []) ∷ gives (insn 133 0 1 (pos 0) (pos 0) ∷ insn 133 0 1 (pos 0) (negsuc 0) ∷ []) [] 0 [] 0 ∷ [])
-    ∷ (leaves (insn 133 0 1 (pos 0) (negsuc 2147483640) ∷ []) ∷ gives (insn 133 0 1 (pos 0) (pos 0) ∷ insn 133 0 1 (pos 0) (negsuc 0) ∷ []) (func 4294967295 7 ∷ func 1 7 ∷ []) 2 (line 10 2 369 382506966 ∷ line 1 2 369 382506966 ∷ []) 2 ∷ [])
-    ∷ (leaves (insn 133 0 1 (pos 0) (negsuc 0) ∷ []) ∷ gives (insn 133 0 1 (pos 0) (pos 0) ∷ insn 133 0 1 (pos 0) (negsuc 0) ∷ []) [] 0 (line 10 2 45 2031485521 ∷ line 10 1 231 1896630789 ∷ line 1 2 45 2031485521 ∷ line 1 1 231 1896630789 ∷ []) 4 ∷ [])
-    ∷ (leaves (insn 133 0 1 (pos 0) (pos 2147483646) ∷ insn 0 0 0 (pos 0) (pos 0) ∷ []) ∷ gives (insn 133 0 1 (pos 0) (pos 1) ∷ insn 0 0 0 (pos 0) (pos 0) ∷ insn 133 0 1 (pos 0) (negsuc 0) ∷ insn 0 0 0 (pos 0) (pos 0) ∷ []) (func 4294967295 57 ∷ func 2 57 ∷ []) 2 (line 0 1 119 2473162168 ∷ line 0 0 156 365891806 ∷ line 2 1 119 2473162168 ∷ line 2 0 156 365891806 ∷ []) 4 ∷ [])
-    ∷ (leaves (insn 133 0 1 (pos 0) (negsuc 0) ∷ insn 24 4 2 (pos 0) (pos 33) ∷ insn 0 0 0 (pos 0) (negsuc 2147483619) ∷ insn 133 0 1 (pos 0) (negsuc 3) ∷ insn 133 0 0 (pos 0) (pos 1) ∷ insn 244 4 1 (negsuc 16270) (negsuc 38852995) ∷ []) ∷ gives (insn 133 0 1 (pos 0) (pos 5) ∷ insn 24 4 2 (pos 0) (pos 33) ∷ insn 0 0 0 (pos 0) (negsuc 2147483619) ∷ insn 133 0 1 (pos 0) (pos 2) ∷ insn 133 0 0 (pos 0) (pos 1) ∷ insn 244 4 1 (negsuc 16270) (negsuc 38852995) ∷ insn 133 0 1 (pos 0) (negsuc 0) ∷ insn 24 4 2 (pos 0) (pos 33) ∷ insn 0 0 0 (pos 0) (negsuc 2147483619) ∷ insn 133 0 1 (pos 0) (negsuc 3) ∷ insn 133 0 0 (pos 0) (pos 1) ∷ insn 244 4 1 (negsuc 16270) (negsuc 38852995) ∷ []) [] 0 [] 0 ∷ [])
-    ∷ (leaves (insn 24 12 2 (pos 0) (pos 1349530090) ∷ insn 0 0 0 (pos 0) (pos 44) ∷ insn 133 0 1 (pos 0) (negsuc 2) ∷ insn 24 3 0 (pos 0) (pos 0) ∷ []) ∷ gives (insn 24 12 2 (pos 0) (pos 1349530090) ∷ insn 0 0 0 (pos 0) (pos 44) ∷ insn 133 0 1 (pos 0) (pos 1) ∷ insn 24 3 0 (pos 0) (pos 0) ∷ insn 24 12 2 (pos 0) (pos 1349530090) ∷ insn 0 0 0 (pos 0) (pos 44) ∷ insn 133 0 1 (pos 0) (negsuc 2) ∷ insn 24 3 0 (pos 0) (pos 0) ∷ []) (func 99 46 ∷ func 99 24 ∷ func 4 46 ∷ func 4 24 ∷ []) 4 [] 0 ∷ [])
-    ∷ (leaves (insn 183 1 0 (pos 0) (pos 5) ∷ insn 24 0 2 (pos 0) (pos 20) ∷ insn 0 0 0 (pos 0) (pos 66) ∷ insn 24 3 0 (pos 0) (pos 0) ∷ insn 133 0 1 (pos 0) (negsuc 4) ∷ []) ∷ gives (insn 183 1 0 (pos 0) (pos 5) ∷ insn 24 0 2 (pos 0) (pos 20) ∷ insn 0 0 0 (pos 0) (pos 66) ∷ insn 24 3 0 (pos 0) (pos 0) ∷ insn 133 0 1 (pos 0) (pos 0) ∷ insn 183 1 0 (pos 0) (pos 5) ∷ insn 24 0 2 (pos 0) (pos 20) ∷ insn 0 0 0 (pos 0) (pos 66) ∷ insn 24 3 0 (pos 0) (pos 0) ∷ insn 133 0 1 (pos 0) (negsuc 4) ∷ []) [] 0 (line 4294967286 1 339 3141114343 ∷ line 4294967289 2 260 2442716985 ∷ line 5 1 339 3141114343 ∷ line 8 2 260 2442716985 ∷ []) 4 ∷ [])
-    ∷ (leaves (insn 243 2 2 (negsuc 14008) (pos 200828403) ∷ insn 24 4 2 (pos 0) (negsuc 0) ∷ insn 0 0 0 (pos 0) (pos 50) ∷ insn 133 0 1 (pos 0) (pos 131068) ∷ []) ∷ gives (insn 243 2 2 (negsuc 14008) (pos 200828403) ∷ insn 24 4 2 (pos 0) (negsuc 0) ∷ insn 0 0 0 (pos 0) (pos 50) ∷ insn 133 0 1 (pos 0) (pos 0) ∷ insn 243 2 2 (negsuc 14008) (pos 200828403) ∷ insn 24 4 2 (pos 0) (negsuc 0) ∷ insn 0 0 0 (pos 0) (pos 50) ∷ insn 133 0 1 (pos 0) (negsuc 3) ∷ []) (func 7 55 ∷ func 4 55 ∷ []) 2 (line 0 1 350 3797380722 ∷ line 1 0 110 2105191085 ∷ line 4 1 350 3797380722 ∷ line 5 0 110 2105191085 ∷ []) 4 ∷ [])
+    (leaves (insn 24 1 1 (pos 9) (negsuc 0) ∷ insn 0 0 0 (pos 0) (pos 0) ∷ insn 26 10 0 (negsuc 11672) (negsuc 112745285) ∷ insn 24 1 1 (pos 9) (pos 31) ∷ insn 0 0 0 (pos 0) (negsuc 2) ∷ insn 85 8 11 (pos 5698) (pos 2102365116) ∷ insn 133 15 9 (pos 30583) (pos 1094019166) ∷ []) ∷ gives (insn 24 1 4 (pos 9) (pos 2) ∷ insn 0 0 0 (pos 0) (pos 0) ∷ insn 26 10 0 (negsuc 11672) (negsuc 112745285) ∷ insn 24 1 1 (pos 9) (pos 31) ∷ insn 0 0 0 (pos 0) (negsuc 2) ∷ insn 85 8 11 (pos 5698) (pos 2102365116) ∷ insn 133 15 9 (pos 30583) (pos 1094019166) ∷ []) [] 0 (line 0 0 280 3619366252 ∷ line 3 2 17 581876160 ∷ line 3 1 287 381400425 ∷ []) 3 ∷ [])
+    ∷ (leaves (insn 24 0 0 (pos 9) (pos 2147483647) ∷ insn 0 0 0 (pos 0) (negsuc 2) ∷ insn 149 0 0 (pos 0) (pos 0) ∷ []) ∷ gives (insn 24 0 4 (pos 9) (pos 1) ∷ insn 0 0 0 (pos 0) (negsuc 2) ∷ insn 149 0 0 (pos 0) (pos 0) ∷ []) (func 4294967295 57 ∷ []) 1 (line 10 1 312 4084089457 ∷ []) 1 ∷ [])
+    ∷ (leaves (insn 5 0 0 (negsuc 1) (pos 0) ∷ insn 24 6 0 (pos 9) (pos 2147483647) ∷ insn 0 0 0 (pos 0) (pos 0) ∷ insn 149 0 0 (pos 0) (pos 0) ∷ []) ∷ gives (insn 5 0 0 (negsuc 1) (pos 0) ∷ insn 24 6 4 (pos 9) (pos 1) ∷ insn 0 0 0 (pos 0) (pos 0) ∷ insn 149 0 0 (pos 0) (pos 0) ∷ []) (func 7 16 ∷ []) 1 (line 0 2 383 3553711368 ∷ line 1 2 86 1440675402 ∷ line 1 0 366 3874733974 ∷ []) 3 ∷ [])
+    ∷ (leaves (insn 24 1 0 (pos 9) (pos 2147483647) ∷ insn 0 0 0 (pos 0) (pos 0) ∷ insn 149 0 0 (pos 0) (pos 0) ∷ []) ∷ gives (insn 24 1 4 (pos 9) (pos 1) ∷ insn 0 0 0 (pos 0) (pos 0) ∷ insn 149 0 0 (pos 0) (pos 0) ∷ []) [] 0 (line 37 1 404 2619889910 ∷ line 37 2 104 3944623834 ∷ []) 2 ∷ [])
+    ∷ (leaves (insn 133 0 1 (pos 0) (pos 0) ∷ insn 24 3 0 (pos 0) (pos 0) ∷ insn 5 0 0 (negsuc 1) (pos 0) ∷ insn 183 1 0 (pos 0) (pos 5) ∷ insn 180 1 0 (negsuc 30898) (negsuc 373356474) ∷ insn 5 0 0 (negsuc 1) (pos 0) ∷ insn 133 0 1 (pos 1) (pos 1) ∷ []) ∷ gives (insn 133 0 1 (pos 0) (pos 0) ∷ insn 24 3 0 (pos 0) (pos 0) ∷ insn 5 0 0 (negsuc 1) (pos 0) ∷ insn 183 1 0 (pos 0) (pos 5) ∷ insn 180 1 0 (negsuc 30898) (negsuc 373356474) ∷ insn 5 0 0 (negsuc 1) (pos 0) ∷ insn 133 0 1 (pos 1) (pos 1) ∷ []) (func 99 97 ∷ func 1 26 ∷ []) 2 [] 0 ∷ [])
+    ∷ (leaves (insn 133 0 0 (pos 0) (pos 1) ∷ insn 133 0 1 (pos 0) (negsuc 2147483647) ∷ insn 183 1 0 (pos 0) (pos 5) ∷ insn 187 15 11 (pos 18868) (negsuc 1562063084) ∷ insn 133 0 0 (pos 0) (pos 1) ∷ insn 24 3 0 (pos 0) (pos 0) ∷ []) ∷ gives (insn 133 0 1 (pos 0) (pos 4) ∷ insn 183 1 0 (pos 0) (pos 5) ∷ insn 187 15 11 (pos 18868) (negsuc 1562063084) ∷ insn 133 0 0 (pos 0) (pos 1) ∷ insn 24 3 0 (pos 0) (pos 0) ∷ insn 133 0 0 (pos 0) (pos 1) ∷ []) (func 4294967295 51 ∷ func 5 12 ∷ []) 2 (line 5 0 244 2556298316 ∷ line 5 2 122 2759363560 ∷ []) 2 ∷ [])
+    ∷ (leaves (insn 24 8 0 (pos 0) (negsuc 2147483647) ∷ insn 0 0 0 (pos 0) (pos 0) ∷ insn 149 0 0 (pos 0) (pos 0) ∷ insn 5 0 0 (negsuc 1) (pos 0) ∷ insn 133 0 1 (pos 0) (negsuc 2147483647) ∷ insn 149 0 0 (pos 0) (pos 0) ∷ insn 133 0 1 (pos 1) (pos 1) ∷ []) ∷ gives (insn 133 0 1 (pos 0) (pos 2) ∷ insn 149 0 0 (pos 0) (pos 0) ∷ insn 133 0 1 (pos 1) (pos 1) ∷ insn 24 8 0 (pos 0) (negsuc 2147483647) ∷ insn 0 0 0 (pos 0) (pos 0) ∷ insn 149 0 0 (pos 0) (pos 0) ∷ insn 5 0 0 (negsuc 1) (pos 0) ∷ []) [] 0 (line 3 2 12 3355339953 ∷ line 4 0 346 2549382308 ∷ []) 2 ∷ [])
+    ∷ (leaves (insn 133 0 1 (pos 0) (negsuc 0) ∷ insn 133 0 1 (pos 0) (negsuc 2147483647) ∷ []) ∷ errs unknown-function ∷ [])
+    ∷ (leaves (insn 24 0 1 (pos 0) (pos 99) ∷ insn 0 0 0 (pos 0) (negsuc 2) ∷ insn 133 0 1 (pos 0) (negsuc 76) ∷ insn 149 0 0 (pos 0) (pos 0) ∷ insn 133 0 1 (pos 0) (pos 131107) ∷ []) ∷ errs unknown-function ∷ [])
+    ∷ (leaves (insn 133 0 1 (pos 0) (pos 131071) ∷ insn 133 0 1 (pos 0) (pos 77) ∷ insn 24 2 1 (pos 0) (pos 95) ∷ insn 0 0 0 (pos 0) (negsuc 2) ∷ insn 24 3 0 (pos 0) (pos 0) ∷ []) ∷ errs unknown-function ∷ [])
     ∷ [])
 unfolding signed u32 u64 i32 add-u64 mul-u64 add-u32 sub-u32 add-i32 sub-i32 insn-is-call relocate-map relocate-maps relocate-functions object-relocate-maps slot-of relocate-from relocate link-new Crate.link relocate-calls crateOf both-steps
 vectors-9 = refl
 
 vectors-10 : (
-    -- inside: 0 (2, true, 0, 0, 0)
+    -- inside, refused by 10: callees reached, a map set, function records, line records
     steps (tables
-    (3 ∷ [])
-    (sym 1 (some 3) 0 text ∷ [])
-    (fun 3 4 0 0 0 1 ∷ [])
-    (rel 3 1 0 64 ∷ [])
-    (insn 24 1 0 (pos 0) (pos 0) ∷ insn 0 0 0 (pos 0) (pos 0) ∷ insn 133 0 1 (pos 1) (pos 1) ∷ insn 133 0 1 (pos 1) (pos 1) ∷ [])
-    []
-    (line 0 0 369 3857521436 ∷ []))
-    (0 ∷ []) (1 ∷ [])
-    [] 3 0
-    -- inside: 0 (2, true, 0, 0, 1)
-    ∷ steps (tables
-    (1 ∷ [])
-    (sym 1 (some 1) 0 text ∷ sym 3 (some 1) 0 section ∷ [])
-    (fun 1 2 0 0 1 0 ∷ [])
-    (rel 1 1 0 64 ∷ [])
-    (insn 24 7 0 (pos 9) (pos 5) ∷ insn 0 0 0 (pos 0) (pos 0) ∷ [])
-    (func 0 39 ∷ [])
-    [])
-    (1 ∷ []) (0 ∷ [])
-    [] 1 0
-    -- inside: 0 (2, true, 0, 1, 0)
-    ∷ steps (tables
-    (2 ∷ [])
-    (sym 2 (some 2) 1048538 section ∷ [])
-    (fun 2 4 1048576 0 0 2 ∷ [])
-    (rel 2 2 16 64 ∷ [])
-    (insn 24 2 0 (pos 0) (pos 40) ∷ insn 0 0 0 (pos 0) (pos 0) ∷ insn 24 2 0 (pos 0) (pos 38) ∷ insn 0 0 0 (pos 0) (pos 0) ∷ [])
-    []
-    (line 10 0 4318 2457040317 ∷ line 10 0 99 2104154857 ∷ []))
-    (0 ∷ []) (2 ∷ [])
-    [] 2 1048576
-    -- inside: 0 (2, true, 0, 1, 1)
-    ∷ steps (tables
-    (1 ∷ [])
-    (sym 0 (some 1) 0 text ∷ [])
-    (fun 1 4 0 0 1 2 ∷ [])
-    (rel 1 0 16 64 ∷ [])
-    (insn 24 0 6 (pos 9) (negsuc 2147483647) ∷ insn 0 0 0 (pos 0) (pos 0) ∷ insn 24 1 3 (pos 0) (negsuc 2147483647) ∷ insn 0 0 0 (pos 0) (pos 3) ∷ [])
-    (func 0 56 ∷ [])
-    (line 10 1 253 4152242430 ∷ line 11 1 354 3218805687 ∷ []))
+    (1 ∷ 3 ∷ 4 ∷ [])
+    (sym 2 (some 20) 42 section ∷ [])
+    (fun 4 5 8192 8192 1 2 ∷ [])
+    (rel 4 2 8208 64 ∷ [])
+    (insn 5 0 0 (negsuc 1) (pos 0) ∷ insn 133 0 1 (pos 0) (negsuc 1) ∷ insn 24 7 0 (pos 9) (pos 0) ∷ insn 0 0 0 (pos 0) (pos 3) ∷ insn 133 0 1 (pos 0) (negsuc 2147483647) ∷ [])
+    (func 4294967295 79 ∷ [])
+    (line 0 2 432 1611914564 ∷ line 4 2 287 4098236072 ∷ []))
     (1 ∷ []) (2 ∷ [])
-    [] 1 0
-    -- inside: 0 (2, true, 1, 0, 0)
-    ∷ steps (tables
-    (2 ∷ [])
-    (sym 0 (some 2) 1048576 text ∷ sym 3 (some 20) 39 section ∷ [])
-    (fun 2 6 1048576 0 0 1 ∷ [])
-    (rel 2 0 8 64 ∷ rel 2 0 24 64 ∷ rel 2 3 32 64 ∷ [])
-    (insn 133 0 0 (pos 0) (pos 1) ∷ insn 24 7 11 (pos 0) (pos 0) ∷ insn 0 0 0 (pos 0) (pos 0) ∷ insn 133 0 1 (pos 0) (negsuc 0) ∷ insn 24 4 1 (pos 0) (pos 299917903) ∷ insn 0 0 0 (pos 0) (negsuc 2) ∷ [])
-    []
-    (line 4294967286 2 191 1846202343 ∷ []))
-    (0 ∷ []) (1 ∷ [])
-    (map-row 20 none (negsuc 696116466) false ∷ []) 2 1048576
-    -- inside: 0 (2, true, 1, 0, 1)
-    ∷ steps (tables
-    (3 ∷ 4 ∷ [])
-    (sym 0 (some 3) 0 text ∷ sym 3 (some 21) 19 other ∷ [])
-    (fun 3 4 0 0 1 0 ∷ [])
-    (rel 3 3 0 32 ∷ rel 3 0 16 0 ∷ [])
-    (insn 24 5 0 (pos 0) (negsuc 2147483647) ∷ insn 0 0 0 (pos 0) (pos 3) ∷ insn 24 2 0 (pos 0) (pos 0) ∷ insn 0 0 0 (pos 0) (pos 0) ∷ [])
-    (func 4294967295 39 ∷ [])
-    [])
-    (1 ∷ []) (0 ∷ [])
-    (map-row 21 (some 3) (negsuc 0) false ∷ []) 3 0
-    -- inside: 0 (2, true, 1, 1, 0)
+    (map-row 20 none (pos 92) true ∷ []) 4 8192
+    -- inside, refused by 10: callees reached, a map set, line records
     ∷ steps (tables
     (2 ∷ 3 ∷ 4 ∷ [])
-    (sym 0 (some 4) 2101248 text ∷ sym 2 (some 20) 23 other ∷ [])
-    (fun 4 4 2101248 4096 0 2 ∷ [])
-    (rel 4 2 4096 64 ∷ rel 4 0 4112 0 ∷ [])
-    (insn 24 15 13 (pos 0) (negsuc 4) ∷ insn 0 0 0 (pos 0) (pos 0) ∷ insn 24 7 0 (pos 0) (pos 0) ∷ insn 0 0 0 (pos 0) (negsuc 2) ∷ [])
+    (sym 0 (some 4) 2101073 section ∷ sym 3 (some 20) 8 section ∷ [])
+    (fun 4 6 2101248 4096 0 2 ∷ [])
+    (rel 4 3 4112 64 ∷ rel 4 0 4136 32 ∷ [])
+    (insn 133 0 1 (pos 0) (pos 262143) ∷ insn 133 0 1 (pos 1) (pos 1) ∷ insn 24 3 0 (pos 0) (pos 21) ∷ insn 0 0 0 (pos 0) (pos 0) ∷ insn 149 0 0 (pos 0) (pos 0) ∷ insn 133 0 1 (pos 0) (pos 21) ∷ [])
     []
-    (line 37 2 199 4202433616 ∷ line 40 1 440 2724235620 ∷ []))
+    (line 0 2 145 3750826002 ∷ line 1 1 169 4242751173 ∷ []))
     (0 ∷ []) (2 ∷ [])
-    (map-row 20 none (negsuc 976089688) false ∷ []) 4 2101248
-    -- inside: 0 (2, true, 1, 1, 1)
+    (map-row 20 none (pos 30) false ∷ []) 4 2101248
+    -- inside, refused by 10: callees reached, function records
     ∷ steps (tables
     (3 ∷ [])
-    (sym 1 (some 3) 1048560 section ∷ sym 5 (some 20) 48 section ∷ [])
-    (fun 3 5 1048576 0 1 2 ∷ [])
-    (rel 3 5 0 0 ∷ rel 3 1 16 64 ∷ [])
-    (insn 24 4 0 (pos 9) (pos 19) ∷ insn 0 0 0 (pos 0) (pos 0) ∷ insn 24 2 0 (pos 0) (pos 16) ∷ insn 0 0 0 (pos 0) (pos 0) ∷ insn 149 0 0 (pos 0) (pos 0) ∷ [])
-    (func 0 37 ∷ [])
-    (line 0 0 272 1905541036 ∷ line 1 0 385 1733895381 ∷ []))
-    (1 ∷ []) (2 ∷ [])
-    (map-row 20 none (pos 83) true ∷ []) 3 1048576
-    -- inside: 10 (0, false, 0, 0, 0)
-    ∷ steps (tables
-    (2 ∷ 3 ∷ [])
-    (sym 2 (some 2) 1048576 text ∷ sym 6 (some 20) 39 section ∷ [])
-    (fun 2 1 1048576 0 0 0 ∷ [])
     []
-    (insn 133 0 1 (pos 0) (negsuc 2147483647) ∷ [])
+    (fun 9 5 0 0 1 1 ∷ [])
+    []
+    (insn 24 13 9 (pos 0) (pos 290621799) ∷ insn 0 0 0 (pos 0) (negsuc 2) ∷ insn 133 0 1 (pos 0) (negsuc 2) ∷ insn 133 0 1 (pos 0) (negsuc 3) ∷ insn 133 0 1 (pos 0) (negsuc 8) ∷ [])
+    (func 99 48 ∷ [])
+    (line 0 0 34 4111274634 ∷ []))
+    (1 ∷ []) (1 ∷ [])
+    [] 9 0
+    -- inside, refused by 10: callees reached, function records, line records
+    ∷ steps (tables
+    (1 ∷ 3 ∷ 4 ∷ [])
+    []
+    (fun 4 3 0 0 1 2 ∷ [])
+    []
+    (insn 133 0 1 (pos 0) (negsuc 0) ∷ insn 133 0 1 (pos 0) (negsuc 1) ∷ insn 133 0 1 (pos 0) (negsuc 2147483647) ∷ [])
+    (func 7 53 ∷ [])
+    (line 37 2 489 1741895068 ∷ line 39 2 244 3346365356 ∷ []))
+    (1 ∷ []) (2 ∷ [])
+    (map-row 34 (some 4000000000) (negsuc 0) false ∷ []) 4 0
+    -- inside, refused by 10: callees reached, line records
+    ∷ steps (tables
+    (2 ∷ 3 ∷ 4 ∷ [])
+    []
+    (fun 2 4 8192 8192 0 2 ∷ [])
+    []
+    (insn 133 0 0 (pos 0) (pos 1) ∷ insn 133 0 1 (pos 0) (negsuc 1) ∷ insn 133 0 1 (pos 0) (negsuc 2) ∷ insn 133 0 1 (pos 0) (negsuc 2147483647) ∷ [])
+    []
+    (line 0 1 317 3263582397 ∷ line 3 2 461 1720251011 ∷ []))
+    (0 ∷ []) (2 ∷ [])
+    [] 2 8192
+    -- inside, refused by 10: nothing reached
+    ∷ steps (tables
+    (1 ∷ 4 ∷ [])
+    []
+    (fun 4 3 0 0 0 0 ∷ [])
+    []
+    (insn 5 0 0 (negsuc 1) (pos 0) ∷ insn 183 1 0 (pos 0) (pos 5) ∷ insn 133 0 1 (pos 0) (pos 1000) ∷ [])
     []
     [])
     (0 ∷ []) (0 ∷ [])
-    (map-row 20 none (pos 43) true ∷ []) 2 1048576
-    -- inside: 10 (0, false, 0, 0, 1)
+    [] 4 0
+    -- inside, refused by 10: nothing reached, a map set
+    ∷ steps (tables
+    (3 ∷ [])
+    (sym 1 (some 21) 2 other ∷ sym 2 (some 3) 1048577 text ∷ [])
+    (fun 3 4 1048576 0 0 1 ∷ [])
+    (rel 3 2 0 32 ∷ rel 3 1 16 64 ∷ [])
+    (insn 24 6 0 (pos 9) (pos 0) ∷ insn 0 0 0 (pos 0) (pos 0) ∷ insn 24 13 13 (pos 0) (pos 27) ∷ insn 0 0 0 (pos 0) (negsuc 2) ∷ [])
+    []
+    (line 0 16711681 157 2291057561 ∷ []))
+    (0 ∷ []) (1 ∷ [])
+    (map-row 21 (some 1) (negsuc 0) true ∷ []) 3 1048576
+    -- inside, refused by 10: nothing reached, a map set, function records
+    ∷ steps (tables
+    (2 ∷ [])
+    (sym 0 (some 21) 54 other ∷ [])
+    (fun 2 5 0 0 1 1 ∷ [])
+    (rel 2 0 24 64 ∷ [])
+    (insn 133 0 1 (pos 0) (pos 1000) ∷ insn 129 7 11 (negsuc 16896) (pos 394502258) ∷ insn 133 0 1 (pos 1) (pos 1) ∷ insn 24 7 0 (pos 0) (pos 50) ∷ insn 0 0 0 (pos 0) (pos 0) ∷ [])
+    (func 4294967295 65 ∷ [])
+    (line 10 0 51 2694848024 ∷ []))
+    (1 ∷ []) (1 ∷ [])
+    (map-row 25 none (pos 51) true ∷ map-row 33 (some 0) (negsuc 0) true ∷ []) 2 0
+    -- inside, refused by 10: nothing reached, a map set, function records, line records
     ∷ steps (tables
     (1 ∷ [])
-    (sym 2 (some 1) 0 text ∷ [])
-    (fun 1 2 0 0 1 0 ∷ [])
+    (sym 1 (some 21) 53 other ∷ [])
+    (fun 1 3 0 0 1 2 ∷ [])
+    (rel 1 1 8 64 ∷ [])
+    (insn 133 0 1 (pos 0) (negsuc 2147483647) ∷ insn 24 5 0 (pos 9) (pos 39) ∷ insn 0 0 0 (pos 0) (pos 3) ∷ [])
+    (func 99 78 ∷ [])
+    (line 0 1 293 2793402956 ∷ line 2 0 384 551666010 ∷ []))
+    (1 ∷ []) (2 ∷ [])
+    (map-row 21 (some 1) (negsuc 0) true ∷ []) 1 0
+    -- inside, refused by 10: nothing reached, a map set, line records
+    ∷ steps (tables
+    (1 ∷ 3 ∷ 4 ∷ [])
+    (sym 3 (some 21) 49 other ∷ [])
+    (fun 4 4 2101248 4096 0 2 ∷ [])
+    (rel 4 3 4096 64 ∷ [])
+    (insn 24 15 4 (pos 0) (pos 27) ∷ insn 0 0 0 (pos 0) (pos 0) ∷ insn 133 0 1 (pos 0) (negsuc 2147483647) ∷ insn 183 1 0 (pos 0) (pos 5) ∷ [])
     []
-    (insn 133 0 1 (pos 0) (pos 1000) ∷ insn 24 3 0 (pos 0) (pos 0) ∷ [])
-    (func 99 90 ∷ [])
-    [])
-    (1 ∷ []) (0 ∷ [])
-    [] 1 0
+    (line 0 1 461 2152401845 ∷ line 3 2 452 1830563238 ∷ []))
+    (0 ∷ []) (2 ∷ [])
+    (map-row 21 (some 1) (negsuc 0) false ∷ map-row 21 (some 3) (negsuc 903028027) true ∷ []) 4 2101248
     ∷ [])
     ≡ (
-    (leaves (insn 24 1 0 (pos 0) (pos 0) ∷ insn 0 0 0 (pos 0) (pos 0) ∷ insn 133 0 1 (pos 1) (pos 1) ∷ insn 133 0 1 (pos 1) (pos 1) ∷ []) ∷ gives (insn 24 1 4 (pos 0) (pos 3) ∷ insn 0 0 0 (pos 0) (pos 0) ∷ insn 133 0 1 (pos 1) (pos 1) ∷ insn 133 0 1 (pos 1) (pos 1) ∷ insn 24 1 4 (pos 0) (negsuc 0) ∷ insn 0 0 0 (pos 0) (pos 0) ∷ insn 133 0 1 (pos 1) (pos 1) ∷ insn 133 0 1 (pos 1) (pos 1) ∷ []) [] 0 (line 0 0 369 3857521436 ∷ line 4 0 369 3857521436 ∷ []) 2 ∷ [])
-    ∷ (leaves (insn 24 7 0 (pos 9) (pos 5) ∷ insn 0 0 0 (pos 0) (pos 0) ∷ []) ∷ gives (insn 24 7 4 (pos 9) (pos 1) ∷ insn 0 0 0 (pos 0) (pos 0) ∷ insn 24 7 4 (pos 9) (negsuc 0) ∷ insn 0 0 0 (pos 0) (pos 0) ∷ []) (func 0 39 ∷ func 2 39 ∷ []) 2 [] 0 ∷ [])
-    ∷ (leaves (insn 24 2 0 (pos 0) (pos 40) ∷ insn 0 0 0 (pos 0) (pos 0) ∷ insn 24 2 0 (pos 0) (pos 38) ∷ insn 0 0 0 (pos 0) (pos 0) ∷ []) ∷ gives (insn 24 2 0 (pos 0) (pos 40) ∷ insn 0 0 0 (pos 0) (pos 0) ∷ insn 24 2 4 (pos 0) (pos 1) ∷ insn 0 0 0 (pos 0) (pos 0) ∷ insn 24 2 0 (pos 0) (pos 40) ∷ insn 0 0 0 (pos 0) (pos 0) ∷ insn 24 2 4 (pos 0) (negsuc 2) ∷ insn 0 0 0 (pos 0) (pos 0) ∷ []) [] 0 (line 10 0 4318 2457040317 ∷ line 10 0 99 2104154857 ∷ line 4 0 4318 2457040317 ∷ line 4 0 99 2104154857 ∷ []) 4 ∷ [])
-    ∷ (leaves (insn 24 0 6 (pos 9) (negsuc 2147483647) ∷ insn 0 0 0 (pos 0) (pos 0) ∷ insn 24 1 3 (pos 0) (negsuc 2147483647) ∷ insn 0 0 0 (pos 0) (pos 3) ∷ []) ∷ gives (insn 24 0 6 (pos 9) (negsuc 2147483647) ∷ insn 0 0 0 (pos 0) (pos 0) ∷ insn 24 1 4 (pos 0) (pos 1) ∷ insn 0 0 0 (pos 0) (pos 3) ∷ insn 24 0 6 (pos 9) (negsuc 2147483647) ∷ insn 0 0 0 (pos 0) (pos 0) ∷ insn 24 1 4 (pos 0) (negsuc 2) ∷ insn 0 0 0 (pos 0) (pos 3) ∷ []) (func 0 56 ∷ func 4 56 ∷ []) 2 (line 10 1 253 4152242430 ∷ line 11 1 354 3218805687 ∷ line 4 1 253 4152242430 ∷ line 5 1 354 3218805687 ∷ []) 4 ∷ [])
-    ∷ (leaves (insn 133 0 0 (pos 0) (pos 1) ∷ insn 24 7 11 (pos 0) (pos 0) ∷ insn 0 0 0 (pos 0) (pos 0) ∷ insn 133 0 1 (pos 0) (negsuc 0) ∷ insn 24 4 1 (pos 0) (negsuc 696116466) ∷ insn 0 0 0 (pos 0) (negsuc 2) ∷ []) ∷ gives (insn 133 0 0 (pos 0) (pos 1) ∷ insn 24 7 4 (pos 0) (pos 4) ∷ insn 0 0 0 (pos 0) (pos 0) ∷ insn 133 0 1 (pos 0) (pos 2) ∷ insn 24 4 1 (pos 0) (negsuc 696116466) ∷ insn 0 0 0 (pos 0) (negsuc 2) ∷ insn 133 0 0 (pos 0) (pos 1) ∷ insn 24 7 4 (pos 0) (negsuc 1) ∷ insn 0 0 0 (pos 0) (pos 0) ∷ insn 133 0 1 (pos 0) (negsuc 3) ∷ insn 24 4 1 (pos 0) (negsuc 696116466) ∷ insn 0 0 0 (pos 0) (negsuc 2) ∷ []) [] 0 (line 4294967286 2 191 1846202343 ∷ line 6 2 191 1846202343 ∷ []) 2 ∷ [])
-    ∷ (leaves (insn 24 5 1 (pos 0) (negsuc 0) ∷ insn 0 0 0 (pos 0) (pos 3) ∷ insn 24 2 0 (pos 0) (pos 0) ∷ insn 0 0 0 (pos 0) (pos 0) ∷ []) ∷ gives (insn 24 5 1 (pos 0) (negsuc 0) ∷ insn 0 0 0 (pos 0) (pos 3) ∷ insn 24 2 4 (pos 0) (pos 1) ∷ insn 0 0 0 (pos 0) (pos 0) ∷ insn 24 5 1 (pos 0) (negsuc 0) ∷ insn 0 0 0 (pos 0) (pos 3) ∷ insn 24 2 4 (pos 0) (negsuc 2) ∷ insn 0 0 0 (pos 0) (pos 0) ∷ []) (func 4294967295 39 ∷ func 4 39 ∷ []) 2 [] 0 ∷ [])
-    ∷ (leaves (insn 24 15 1 (pos 0) (negsuc 976089688) ∷ insn 0 0 0 (pos 0) (pos 0) ∷ insn 24 7 0 (pos 0) (pos 0) ∷ insn 0 0 0 (pos 0) (negsuc 2) ∷ []) ∷ gives (insn 24 15 1 (pos 0) (negsuc 976089688) ∷ insn 0 0 0 (pos 0) (pos 0) ∷ insn 24 7 4 (pos 0) (pos 1) ∷ insn 0 0 0 (pos 0) (negsuc 2) ∷ insn 24 15 1 (pos 0) (negsuc 976089688) ∷ insn 0 0 0 (pos 0) (pos 0) ∷ insn 24 7 4 (pos 0) (negsuc 2) ∷ insn 0 0 0 (pos 0) (negsuc 2) ∷ []) [] 0 (line 37 2 199 4202433616 ∷ line 40 1 440 2724235620 ∷ line 4 2 199 4202433616 ∷ line 7 1 440 2724235620 ∷ []) 4 ∷ [])
-    ∷ (leaves (insn 24 4 2 (pos 9) (pos 83) ∷ insn 0 0 0 (pos 0) (pos 67) ∷ insn 24 2 0 (pos 0) (pos 16) ∷ insn 0 0 0 (pos 0) (pos 0) ∷ insn 149 0 0 (pos 0) (pos 0) ∷ []) ∷ gives (insn 24 4 2 (pos 9) (pos 83) ∷ insn 0 0 0 (pos 0) (pos 67) ∷ insn 24 2 4 (pos 0) (pos 2) ∷ insn 0 0 0 (pos 0) (pos 0) ∷ insn 149 0 0 (pos 0) (pos 0) ∷ insn 24 4 2 (pos 9) (pos 83) ∷ insn 0 0 0 (pos 0) (pos 67) ∷ insn 24 2 4 (pos 0) (negsuc 2) ∷ insn 0 0 0 (pos 0) (pos 0) ∷ insn 149 0 0 (pos 0) (pos 0) ∷ []) (func 0 37 ∷ func 5 37 ∷ []) 2 (line 0 0 272 1905541036 ∷ line 1 0 385 1733895381 ∷ line 5 0 272 1905541036 ∷ line 6 0 385 1733895381 ∷ []) 4 ∷ [])
-    ∷ (leaves (insn 133 0 1 (pos 0) (negsuc 2147483647) ∷ []) ∷ errs unknown-function ∷ [])
-    ∷ (leaves (insn 133 0 1 (pos 0) (pos 1000) ∷ insn 24 3 0 (pos 0) (pos 0) ∷ []) ∷ errs unknown-function ∷ [])
+    (leaves (insn 5 0 0 (negsuc 1) (pos 0) ∷ insn 133 0 1 (pos 0) (negsuc 1) ∷ insn 24 7 2 (pos 9) (pos 92) ∷ insn 0 0 0 (pos 0) (pos 42) ∷ insn 133 0 1 (pos 0) (negsuc 2147483647) ∷ []) ∷ errs unknown-function ∷ [])
+    ∷ (leaves (insn 133 0 1 (pos 0) (pos 262143) ∷ insn 133 0 1 (pos 1) (pos 1) ∷ insn 24 3 1 (pos 0) (pos 30) ∷ insn 0 0 0 (pos 0) (pos 0) ∷ insn 149 0 0 (pos 0) (pos 0) ∷ insn 133 0 1 (pos 0) (pos 21) ∷ []) ∷ errs unknown-function ∷ [])
+    ∷ (leaves (insn 24 13 9 (pos 0) (pos 290621799) ∷ insn 0 0 0 (pos 0) (negsuc 2) ∷ insn 133 0 1 (pos 0) (negsuc 2) ∷ insn 133 0 1 (pos 0) (negsuc 3) ∷ insn 133 0 1 (pos 0) (negsuc 8) ∷ []) ∷ errs unknown-function ∷ [])
+    ∷ (leaves (insn 133 0 1 (pos 0) (negsuc 0) ∷ insn 133 0 1 (pos 0) (negsuc 1) ∷ insn 133 0 1 (pos 0) (negsuc 2147483647) ∷ []) ∷ errs unknown-function ∷ [])
+    ∷ (leaves (insn 133 0 0 (pos 0) (pos 1) ∷ insn 133 0 1 (pos 0) (negsuc 1) ∷ insn 133 0 1 (pos 0) (negsuc 2) ∷ insn 133 0 1 (pos 0) (negsuc 2147483647) ∷ []) ∷ errs unknown-function ∷ [])
+    ∷ (leaves (insn 5 0 0 (negsuc 1) (pos 0) ∷ insn 183 1 0 (pos 0) (pos 5) ∷ insn 133 0 1 (pos 0) (pos 1000) ∷ []) ∷ errs unknown-function ∷ [])
+    ∷ (leaves (insn 24 6 0 (pos 9) (pos 0) ∷ insn 0 0 0 (pos 0) (pos 0) ∷ insn 24 13 2 (pos 0) (negsuc 0) ∷ insn 0 0 0 (pos 0) (pos 29) ∷ []) ∷ errs unknown-function ∷ [])
+    ∷ (leaves (insn 133 0 1 (pos 0) (pos 1000) ∷ insn 129 7 11 (negsuc 16896) (pos 394502258) ∷ insn 133 0 1 (pos 1) (pos 1) ∷ insn 24 7 2 (pos 0) (negsuc 0) ∷ insn 0 0 0 (pos 0) (pos 104) ∷ []) ∷ errs unknown-function ∷ [])
+    ∷ (leaves (insn 133 0 1 (pos 0) (negsuc 2147483647) ∷ insn 24 5 2 (pos 9) (negsuc 0) ∷ insn 0 0 0 (pos 0) (pos 92) ∷ []) ∷ errs unknown-function ∷ [])
+    ∷ (leaves (insn 24 15 2 (pos 0) (negsuc 903028027) ∷ insn 0 0 0 (pos 0) (pos 76) ∷ insn 133 0 1 (pos 0) (negsuc 2147483647) ∷ insn 183 1 0 (pos 0) (pos 5) ∷ []) ∷ errs unknown-function ∷ [])
     ∷ [])
 unfolding signed u32 u64 i32 add-u64 mul-u64 add-u32 sub-u32 add-i32 sub-i32 insn-is-call relocate-map relocate-maps relocate-functions object-relocate-maps slot-of relocate-from relocate link-new Crate.link relocate-calls crateOf both-steps
 vectors-10 = refl
 
 vectors-11 : (
-    -- inside: 10 (0, false, 0, 1, 0)
+    -- inside, refused by 10: nothing reached, function records
     steps (tables
-    (2 ∷ 3 ∷ [])
+    (3 ∷ [])
+    (sym 1 (some 3) 0 text ∷ [])
+    (fun 3 1 0 0 1 0 ∷ [])
     []
-    (fun 2 2 4096 4096 0 3 ∷ [])
-    []
-    (insn 133 0 0 (pos 0) (pos 1) ∷ insn 133 0 1 (pos 0) (pos 2147483646) ∷ [])
-    []
-    (line 10 2 81 3578806673 ∷ line 11 2 128 1722918903 ∷ line 11 2 391 2780593819 ∷ []))
-    (0 ∷ []) (3 ∷ [])
-    [] 2 4096
-    -- inside: 10 (0, false, 0, 1, 1)
-    ∷ steps (tables
-    (2 ∷ 4 ∷ [])
-    []
-    (fun 2 1 1048576 0 1 2 ∷ [])
-    []
-    (insn 133 0 1 (pos 0) (negsuc 8) ∷ [])
-    (func 0 98 ∷ [])
-    (line 0 1 260 1381684459 ∷ line 0 1 295 3211026693 ∷ []))
-    (1 ∷ []) (2 ∷ [])
-    [] 2 1048576
-    -- inside: 10 (0, false, 1, 0, 0)
-    ∷ steps (tables
-    (1 ∷ 4 ∷ [])
-    (sym 0 (some 20) 9 other ∷ sym 4 (some 21) 50 other ∷ [])
-    (fun 4 3 4096 4096 0 1 ∷ [])
-    (rel 4 0 4104 0 ∷ [])
-    (insn 133 0 1 (pos 0) (negsuc 8) ∷ insn 24 7 0 (pos 0) (pos 30) ∷ insn 0 0 0 (pos 0) (pos 3) ∷ [])
-    []
-    (line 10 2 300 1764359062 ∷ []))
-    (0 ∷ []) (1 ∷ [])
-    (map-row 20 none (pos 67) false ∷ map-row 34 (some 4000000000) (negsuc 0) false ∷ map-row 21 (some 4) (negsuc 0) true ∷ []) 4 4096
-    -- inside: 10 (0, false, 1, 0, 1)
-    ∷ steps (tables
-    (1 ∷ 2 ∷ 4 ∷ [])
-    (sym 1 (some 9) 12288 text ∷ sym 2 (some 21) 54 other ∷ sym 4 (some 21) 57 other ∷ [])
-    (fun 9 5 12288 12288 1 0 ∷ [])
-    (rel 9 4 12304 0 ∷ [])
-    (insn 133 0 1 (pos 0) (negsuc 2147483647) ∷ insn 133 0 1 (pos 1) (pos 1) ∷ insn 24 8 0 (pos 0) (pos 42) ∷ insn 0 0 0 (pos 0) (negsuc 2) ∷ insn 133 0 0 (pos 0) (pos 1) ∷ [])
-    (func 0 68 ∷ [])
+    (insn 133 0 1 (pos 0) (negsuc 2147483647) ∷ [])
+    (func 0 85 ∷ [])
     [])
     (1 ∷ []) (0 ∷ [])
-    (map-row 33 (some 2) (pos 1938166641) true ∷ map-row 21 (some 4) (pos 36) false ∷ []) 9 12288
-    -- inside: 10 (0, false, 1, 1, 0)
+    [] 3 0
+    -- inside, refused by 10: nothing reached, function records, line records
     ∷ steps (tables
     (2 ∷ 3 ∷ 4 ∷ [])
-    (sym 0 (some 20) 50 section ∷ sym 1 (some 20) 17 section ∷ [])
-    (fun 2 3 0 0 0 4 ∷ [])
-    (rel 2 1 0 0 ∷ [])
-    (insn 24 7 0 (pos 9) (pos 44) ∷ insn 0 0 0 (pos 0) (negsuc 2) ∷ insn 133 0 1 (pos 0) (negsuc 4) ∷ [])
     []
-    (line 0 2 481 2484523389 ∷ line 2 2 425 2286416107 ∷ line 0 0 107 2956811754 ∷ line 0 0 131 2588327756 ∷ []))
-    (0 ∷ []) (4 ∷ [])
-    (map-row 33 (some 0) (negsuc 0) false ∷ map-row 20 none (negsuc 646587558) true ∷ []) 2 0
-    -- inside: 10 (0, false, 1, 1, 1)
-    ∷ steps (tables
-    (1 ∷ 2 ∷ 3 ∷ [])
-    (sym 0 (some 2) 8192 text ∷ sym 1 (some 20) 26 other ∷ [])
-    (fun 2 5 8192 8192 1 2 ∷ [])
-    (rel 2 1 8192 32 ∷ [])
-    (insn 24 5 0 (pos 9) (negsuc 2147483647) ∷ insn 0 0 0 (pos 0) (pos 0) ∷ insn 133 0 1 (pos 0) (negsuc 4) ∷ insn 149 0 0 (pos 0) (pos 0) ∷ insn 183 1 0 (pos 0) (pos 5) ∷ [])
-    (func 99 9 ∷ [])
-    (line 10 0 46 2477899709 ∷ line 10 1 153 2067849856 ∷ []))
+    (fun 4 2 0 0 1 2 ∷ [])
+    []
+    (insn 133 0 1 (pos 0) (pos 1000) ∷ insn 149 0 0 (pos 0) (pos 0) ∷ [])
+    (func 99 37 ∷ [])
+    (line 10 2 271 2833345700 ∷ line 11 1 334 3821218434 ∷ []))
     (1 ∷ []) (2 ∷ [])
-    (map-row 20 none (negsuc 1418582738) true ∷ []) 2 8192
-    -- inside: 10 (1, false, 0, 0, 1)
+    [] 4 0
+    -- inside, refused by 10: nothing reached, line records
+    ∷ steps (tables
+    (1 ∷ [])
+    []
+    (fun 1 2 0 0 0 2 ∷ [])
+    []
+    (insn 159 8 5 (pos 11471) (negsuc 1469904099) ∷ insn 133 0 1 (pos 0) (pos 1000) ∷ [])
+    []
+    (line 0 1 479 2640298439 ∷ line 1 2 45 2049332115 ∷ []))
+    (0 ∷ []) (2 ∷ [])
+    [] 1 0
+    -- inside, refused by 10: one callee reached, a map set, function records
+    ∷ steps (tables
+    (1 ∷ [])
+    (sym 1 (some 1) 1048609 section ∷ sym 3 (some 20) 24 section ∷ [])
+    (fun 1 4 1048576 0 0 0 ∷ fun 1 3 1048608 32 1 0 ∷ [])
+    (rel 1 1 8 64 ∷ rel 1 3 32 64 ∷ [])
+    (insn 24 3 0 (pos 0) (pos 0) ∷ insn 133 0 1 (pos 0) (negsuc 0) ∷ insn 149 0 0 (pos 0) (pos 0) ∷ insn 5 0 0 (negsuc 1) (pos 0) ∷ insn 24 9 0 (pos 0) (pos 27) ∷ insn 0 0 0 (pos 0) (pos 3) ∷ insn 133 0 1 (pos 0) (negsuc 4) ∷ [])
+    (func 7 49 ∷ [])
+    [])
+    (0 ∷ 999970433 ∷ []) (0 ∷ 354604216 ∷ [])
+    (map-row 20 none (negsuc 1026282864) true ∷ []) 1 1048576
+    -- inside, refused by 10: one callee reached, a map set, function records, line records
+    ∷ steps (tables
+    (1 ∷ [])
+    (sym 2 (some 1) 16 section ∷ sym 4 (some 20) 6 section ∷ [])
+    (fun 1 1 0 0 1 1 ∷ fun 1 6 16 16 1 1 ∷ [])
+    (rel 1 2 40 64 ∷ rel 1 4 48 64 ∷ [])
+    (insn 149 0 0 (pos 0) (pos 0) ∷ insn 133 0 1 (pos 0) (negsuc 2) ∷ insn 149 0 0 (pos 0) (pos 0) ∷ insn 133 0 1 (pos 0) (negsuc 514) ∷ insn 133 0 1 (pos 0) (pos 0) ∷ insn 24 0 0 (pos 0) (negsuc 6) ∷ insn 0 0 0 (pos 0) (negsuc 2) ∷ [])
+    (func 99 28 ∷ func 0 20 ∷ [])
+    (line 0 2 165 2381818866 ∷ line 4294967286 2 77 3752862543 ∷ []))
+    (1 ∷ 1 ∷ []) (1 ∷ 1 ∷ [])
+    (map-row 20 none (pos 16) false ∷ []) 1 16
+    -- inside, refused by 10: one callee reached, a map set, line records
+    ∷ steps (tables
+    (1 ∷ 2 ∷ 4 ∷ [])
+    (sym 1 (some 1) 8173 section ∷ sym 4 (some 20) 51 section ∷ sym 8 (some 21) 38 other ∷ [])
+    (fun 1 3 8192 8192 0 0 ∷ fun 2 4 2101248 4096 0 2 ∷ [])
+    (rel 1 4 8192 0 ∷ rel 2 1 4096 64 ∷ [])
+    (insn 24 5 0 (pos 0) (pos 16) ∷ insn 0 0 0 (pos 0) (pos 3) ∷ insn 149 0 0 (pos 0) (pos 0) ∷ insn 133 0 1 (pos 0) (pos 19) ∷ insn 133 0 1 (pos 0) (pos 77) ∷ insn 133 0 1 (pos 1) (pos 1) ∷ insn 133 0 1 (pos 1) (pos 1) ∷ [])
+    []
+    (line 0 2 276 983325561 ∷ line 2 1 20 3066957541 ∷ []))
+    (0 ∷ 0 ∷ []) (0 ∷ 2 ∷ [])
+    (map-row 20 none (negsuc 784912938) true ∷ map-row 21 (some 8) (pos 29) true ∷ []) 2 2101248
+    -- inside, refused by 10: one callee reached, function records
     ∷ steps (tables
     (3 ∷ [])
-    (sym 2 (some 3) 64 section ∷ sym 5 (some 21) 46 other ∷ sym 6 (some 3) 0 text ∷ sym 7 (some 3) 40 text ∷ sym 10 (some 3) 40 section ∷ sym 13 (some 21) 57 other ∷ [])
-    (fun 3 4 0 0 2 0 ∷ fun 3 2 40 40 1 1 ∷ [])
-    (rel 3 10 16 32 ∷ rel 3 2 40 32 ∷ rel 3 2 48 32 ∷ [])
-    (insn 183 1 0 (pos 0) (pos 5) ∷ insn 149 0 0 (pos 0) (pos 0) ∷ insn 24 1 0 (pos 0) (negsuc 0) ∷ insn 0 0 0 (pos 0) (pos 0) ∷ insn 133 0 1 (pos 0) (negsuc 0) ∷ insn 133 0 1 (pos 0) (pos 4) ∷ [])
-    (func 7 94 ∷ func 99 94 ∷ func 99 65 ∷ [])
-    (line 0 2 392 3257363131 ∷ []))
-    (2 ∷ 1 ∷ []) (0 ∷ 1 ∷ [])
-    (map-row 21 (some 5) (negsuc 0) true ∷ map-row 21 (some 13) (negsuc 0) false ∷ []) 3 0
-    -- inside: 10 (1, false, 0, 1, 0)
-    ∷ steps (tables
-    (1 ∷ 2 ∷ 3 ∷ [])
-    (sym 0 (some 20) 15 other ∷ sym 3 none 17 section ∷ sym 5 (some 2) 0 text ∷ sym 9 (some 3) 4096 text ∷ sym 11 (some 21) 11 other ∷ sym 14 (some 21) 25 other ∷ [])
-    (fun 2 6 0 0 0 2 ∷ fun 3 3 4096 4096 0 2 ∷ [])
-    (rel 2 3 0 32 ∷ rel 3 5 4096 64 ∷ [])
-    (insn 24 9 0 (pos 0) (pos 632791927) ∷ insn 0 0 0 (pos 0) (pos 0) ∷ insn 5 0 0 (negsuc 1) (pos 0) ∷ insn 133 0 1 (pos 0) (negsuc 4) ∷ insn 133 0 0 (pos 0) (pos 1) ∷ insn 133 0 1 (pos 0) (negsuc 5) ∷ insn 24 4 0 (pos 0) (negsuc 0) ∷ insn 0 0 0 (pos 0) (negsuc 2) ∷ insn 133 0 0 (pos 0) (pos 1) ∷ [])
+    (sym 1 (some 21) 44 other ∷ sym 5 (some 20) 39 section ∷ sym 8 (some 20) 19 section ∷ sym 12 (some 3) 0 section ∷ [])
+    (fun 3 1 0 0 1 0 ∷ fun 3 2 24 24 2 0 ∷ [])
     []
-    (line 0 0 348 2562842337 ∷ line 3 0 497 1394323532 ∷ line 10 0 10 883770026 ∷ line 10 0 174 1183698149 ∷ []))
-    (0 ∷ 0 ∷ []) (2 ∷ 2 ∷ [])
-    (map-row 25 none (pos 1818780224) false ∷ map-row 20 none (negsuc 0) true ∷ map-row 33 (some 11) (negsuc 1743912419) true ∷ map-row 21 (some 14) (pos 6) false ∷ []) 3 4096
-    -- inside: 10 (1, false, 0, 1, 1)
+    (insn 24 3 0 (pos 0) (pos 0) ∷ insn 133 0 1 (pos 0) (negsuc 3) ∷ insn 133 0 1 (pos 0) (negsuc 2147483647) ∷ [])
+    (func 99 66 ∷ func 4294967295 56 ∷ func 4294967295 29 ∷ [])
+    [])
+    (1 ∷ 2 ∷ []) (0 ∷ 0 ∷ [])
+    (map-row 21 (some 1) (pos 399876306) false ∷ map-row 20 none (pos 31) false ∷ map-row 33 (some 5) (pos 80) false ∷ []) 3 24
+    -- inside, refused by 10: one callee reached, function records, line records
     ∷ steps (tables
-    (2 ∷ [])
-    (sym 0 (some 2) 8 text ∷ sym 3 (some 2) 0 text ∷ sym 7 (some 2) 0 section ∷ [])
-    (fun 2 1 0 0 1 1 ∷ fun 2 3 8 8 0 1 ∷ [])
-    (rel 2 3 16 64 ∷ [])
-    (insn 133 0 1 (pos 0) (negsuc 2147483647) ∷ insn 149 0 0 (pos 0) (pos 0) ∷ insn 133 0 1 (pos 0) (pos 0) ∷ insn 183 1 0 (pos 0) (pos 5) ∷ [])
-    (func 4294967295 1 ∷ [])
-    (line 0 1 51 4246673206 ∷ line 0 1 424 874455105 ∷ []))
-    (1 ∷ 0 ∷ []) (1 ∷ 1 ∷ [])
+    (1 ∷ [])
+    []
+    (fun 1 1 0 0 1 0 ∷ fun 1 3 8 8 1 3 ∷ [])
+    []
+    (insn 5 0 0 (negsuc 1) (pos 0) ∷ insn 133 0 1 (pos 0) (negsuc 1) ∷ insn 133 0 1 (pos 0) (negsuc 2147483647) ∷ insn 133 0 1 (pos 0) (negsuc 3) ∷ [])
+    (func 0 45 ∷ func 7 85 ∷ [])
+    (line 0 1 0 1769393088 ∷ line 1 1 306 636272461 ∷ line 0 0 341 1334926283 ∷ []))
+    (1 ∷ 1 ∷ []) (0 ∷ 3 ∷ [])
+    (map-row 34 (some 4000000000) (pos 53) true ∷ []) 1 8
+    -- inside, refused by 10: one callee reached, line records
+    ∷ steps (tables
+    (2 ∷ 3 ∷ [])
+    (sym 1 (some 2) 0 section ∷ sym 5 (some 2) 8 section ∷ sym 7 (some 2) 0 text ∷ [])
+    (fun 2 1 0 0 0 2 ∷ fun 2 5 8 8 0 0 ∷ [])
+    []
+    (insn 149 0 0 (pos 0) (pos 0) ∷ insn 133 0 1 (pos 0) (negsuc 1) ∷ insn 24 0 0 (pos 0) (pos 54) ∷ insn 0 0 0 (pos 0) (pos 0) ∷ insn 133 0 1 (pos 0) (negsuc 2147483647) ∷ insn 149 0 0 (pos 0) (pos 0) ∷ [])
+    []
+    (line 0 1 211 1193403216 ∷ line 0 0 292 2628410289 ∷ []))
+    (3127404265 ∷ 0 ∷ []) (4039558306 ∷ 0 ∷ [])
     [] 2 8
-    -- inside: 10 (1, false, 1, 0, 1)
+    -- inside, refused by 3: nothing reached
     ∷ steps (tables
-    (1 ∷ 3 ∷ 4 ∷ [])
-    (sym 1 (some 3) 0 section ∷ sym 2 (some 21) 18 other ∷ sym 3 (some 1) 4096 text ∷ [])
-    (fun 1 3 4096 4096 1 1 ∷ fun 3 5 0 0 2 0 ∷ [])
-    (rel 1 2 4096 0 ∷ rel 1 1 4112 32 ∷ rel 3 3 16 32 ∷ rel 3 1 24 32 ∷ [])
-    (insn 24 2 0 (pos 0) (negsuc 2147483647) ∷ insn 0 0 0 (pos 0) (negsuc 2) ∷ insn 133 0 1 (pos 0) (negsuc 0) ∷ insn 133 0 1 (pos 0) (negsuc 4) ∷ insn 183 1 0 (pos 0) (pos 5) ∷ insn 133 0 1 (pos 0) (negsuc 0) ∷ insn 133 0 1 (pos 0) (negsuc 0) ∷ insn 133 0 1 (pos 0) (negsuc 4) ∷ [])
-    (func 7 15 ∷ func 0 10 ∷ func 7 46 ∷ [])
-    (line 4294967286 0 258 982333202 ∷ []))
-    (1 ∷ 2 ∷ []) (1 ∷ 0 ∷ [])
-    (map-row 21 (some 2) (negsuc 0) true ∷ []) 1 4096
+    (2 ∷ 3 ∷ [])
+    (sym 0 (some 2) 0 text ∷ [])
+    (fun 2 4 0 0 0 0 ∷ [])
+    (rel 2 5 24 64 ∷ [])
+    (insn 5 0 0 (negsuc 1) (pos 0) ∷ insn 149 0 0 (pos 0) (pos 0) ∷ insn 133 0 1 (pos 1) (pos 1) ∷ insn 133 0 1 (pos 0) (pos 5) ∷ [])
+    []
+    [])
+    (0 ∷ []) (0 ∷ [])
+    [] 2 0
     ∷ [])
     ≡ (
-    (leaves (insn 133 0 0 (pos 0) (pos 1) ∷ insn 133 0 1 (pos 0) (pos 2147483646) ∷ []) ∷ errs unknown-function ∷ [])
-    ∷ (leaves (insn 133 0 1 (pos 0) (negsuc 8) ∷ []) ∷ errs unknown-function ∷ [])
-    ∷ (leaves (insn 133 0 1 (pos 0) (negsuc 8) ∷ insn 24 7 1 (pos 0) (pos 67) ∷ insn 0 0 0 (pos 0) (pos 3) ∷ []) ∷ errs unknown-function ∷ [])
-    ∷ (leaves (insn 133 0 1 (pos 0) (negsuc 2147483647) ∷ insn 133 0 1 (pos 1) (pos 1) ∷ insn 24 8 1 (pos 0) (pos 36) ∷ insn 0 0 0 (pos 0) (negsuc 2) ∷ insn 133 0 0 (pos 0) (pos 1) ∷ []) ∷ errs unknown-function ∷ [])
-    ∷ (leaves (insn 24 7 2 (pos 9) (negsuc 646587558) ∷ insn 0 0 0 (pos 0) (pos 61) ∷ insn 133 0 1 (pos 0) (negsuc 4) ∷ []) ∷ errs unknown-function ∷ [])
-    ∷ (leaves (insn 24 5 2 (pos 9) (negsuc 1418582738) ∷ insn 0 0 0 (pos 0) (negsuc 2147483621) ∷ insn 133 0 1 (pos 0) (negsuc 4) ∷ insn 149 0 0 (pos 0) (pos 0) ∷ insn 183 1 0 (pos 0) (pos 5) ∷ []) ∷ errs unknown-function ∷ [])
-    ∷ (leaves (insn 183 1 0 (pos 0) (pos 5) ∷ insn 149 0 0 (pos 0) (pos 0) ∷ insn 24 1 0 (pos 0) (negsuc 0) ∷ insn 0 0 0 (pos 0) (pos 0) ∷ insn 133 0 1 (pos 0) (negsuc 0) ∷ insn 133 0 1 (pos 0) (pos 4) ∷ []) ∷ errs unknown-function ∷ [])
-    ∷ (leaves (insn 24 9 0 (pos 0) (pos 632791927) ∷ insn 0 0 0 (pos 0) (pos 0) ∷ insn 5 0 0 (negsuc 1) (pos 0) ∷ insn 133 0 1 (pos 0) (negsuc 4) ∷ insn 133 0 0 (pos 0) (pos 1) ∷ insn 133 0 1 (pos 0) (negsuc 5) ∷ insn 24 4 0 (pos 0) (negsuc 0) ∷ insn 0 0 0 (pos 0) (negsuc 2) ∷ insn 133 0 0 (pos 0) (pos 1) ∷ []) ∷ errs unknown-function ∷ [])
-    ∷ (leaves (insn 133 0 1 (pos 0) (negsuc 2147483647) ∷ insn 149 0 0 (pos 0) (pos 0) ∷ insn 133 0 1 (pos 0) (pos 0) ∷ insn 183 1 0 (pos 0) (pos 5) ∷ []) ∷ errs unknown-function ∷ [])
-    ∷ (leaves (insn 24 2 2 (pos 0) (negsuc 0) ∷ insn 0 0 0 (pos 0) (negsuc 2147483629) ∷ insn 133 0 1 (pos 0) (negsuc 0) ∷ insn 133 0 1 (pos 0) (negsuc 4) ∷ insn 183 1 0 (pos 0) (pos 5) ∷ insn 133 0 1 (pos 0) (negsuc 0) ∷ insn 133 0 1 (pos 0) (negsuc 0) ∷ insn 133 0 1 (pos 0) (negsuc 4) ∷ []) ∷ errs unknown-function ∷ [])
+    (leaves (insn 133 0 1 (pos 0) (negsuc 2147483647) ∷ []) ∷ errs unknown-function ∷ [])
+    ∷ (leaves (insn 133 0 1 (pos 0) (pos 1000) ∷ insn 149 0 0 (pos 0) (pos 0) ∷ []) ∷ errs unknown-function ∷ [])
+    ∷ (leaves (insn 159 8 5 (pos 11471) (negsuc 1469904099) ∷ insn 133 0 1 (pos 0) (pos 1000) ∷ []) ∷ errs unknown-function ∷ [])
+    ∷ (leaves (insn 24 3 0 (pos 0) (pos 0) ∷ insn 133 0 1 (pos 0) (negsuc 0) ∷ insn 149 0 0 (pos 0) (pos 0) ∷ insn 5 0 0 (negsuc 1) (pos 0) ∷ insn 24 9 2 (pos 0) (negsuc 1026282864) ∷ insn 0 0 0 (pos 0) (pos 51) ∷ insn 133 0 1 (pos 0) (negsuc 4) ∷ []) ∷ errs unknown-function ∷ [])
+    ∷ (leaves (insn 149 0 0 (pos 0) (pos 0) ∷ insn 133 0 1 (pos 0) (negsuc 2) ∷ insn 149 0 0 (pos 0) (pos 0) ∷ insn 133 0 1 (pos 0) (negsuc 514) ∷ insn 133 0 1 (pos 0) (pos 0) ∷ insn 24 0 1 (pos 0) (pos 16) ∷ insn 0 0 0 (pos 0) (negsuc 2) ∷ []) ∷ errs unknown-function ∷ [])
+    ∷ (leaves (insn 24 5 2 (pos 0) (negsuc 784912938) ∷ insn 0 0 0 (pos 0) (pos 67) ∷ insn 149 0 0 (pos 0) (pos 0) ∷ insn 133 0 1 (pos 0) (pos 19) ∷ insn 133 0 1 (pos 0) (pos 77) ∷ insn 133 0 1 (pos 1) (pos 1) ∷ insn 133 0 1 (pos 1) (pos 1) ∷ []) ∷ errs unknown-function ∷ [])
+    ∷ (leaves (insn 24 3 0 (pos 0) (pos 0) ∷ insn 133 0 1 (pos 0) (negsuc 3) ∷ insn 133 0 1 (pos 0) (negsuc 2147483647) ∷ []) ∷ errs unknown-function ∷ [])
+    ∷ (leaves (insn 5 0 0 (negsuc 1) (pos 0) ∷ insn 133 0 1 (pos 0) (negsuc 1) ∷ insn 133 0 1 (pos 0) (negsuc 2147483647) ∷ insn 133 0 1 (pos 0) (negsuc 3) ∷ []) ∷ errs unknown-function ∷ [])
+    ∷ (leaves (insn 149 0 0 (pos 0) (pos 0) ∷ insn 133 0 1 (pos 0) (negsuc 1) ∷ insn 24 0 0 (pos 0) (pos 54) ∷ insn 0 0 0 (pos 0) (pos 0) ∷ insn 133 0 1 (pos 0) (negsuc 2147483647) ∷ insn 149 0 0 (pos 0) (pos 0) ∷ []) ∷ errs unknown-function ∷ [])
+    ∷ (errs unknown-symbol ∷ errs unknown-symbol ∷ [])
     ∷ [])
 unfolding signed u32 u64 i32 add-u64 mul-u64 add-u32 sub-u32 add-i32 sub-i32 insn-is-call relocate-map relocate-maps relocate-functions object-relocate-maps slot-of relocate-from relocate link-new Crate.link relocate-calls crateOf both-steps
 vectors-11 = refl
 
 vectors-12 : (
-    -- inside: 10 (1, false, 1, 1, 1)
+    -- inside, refused by 3: nothing reached, function records
     steps (tables
-    (4 ∷ [])
-    (sym 2 (some 4) 32 text ∷ sym 3 (some 4) 20 section ∷ sym 4 (some 4) 1 section ∷ sym 8 (some 21) 12 other ∷ sym 9 (some 21) 15 other ∷ [])
-    (fun 4 4 0 0 0 2 ∷ fun 4 3 32 32 1 2 ∷ [])
-    (rel 4 8 8 64 ∷ rel 4 4 32 32 ∷ [])
-    (insn 133 0 1 (pos 0) (pos 3) ∷ insn 24 4 0 (pos 0) (pos 52) ∷ insn 0 0 0 (pos 0) (pos 0) ∷ insn 149 0 0 (pos 0) (pos 0) ∷ insn 133 0 1 (pos 0) (negsuc 0) ∷ insn 133 0 1 (pos 0) (negsuc 5) ∷ insn 133 0 1 (pos 1) (pos 1) ∷ [])
-    (func 7 58 ∷ [])
-    (line 10 0 404 3619361187 ∷ line 12 2 293 2256446271 ∷ line 0 0 261 83895895 ∷ line 0 0 291 712881457 ∷ []))
-    (0 ∷ 1 ∷ []) (2 ∷ 2 ∷ [])
-    (map-row 34 (some 4000000000) (pos 79) true ∷ map-row 21 (some 8) (pos 40) false ∷ map-row 21 (some 9) (negsuc 0) true ∷ []) 4 0
-    -- inside: 10 (2, false, 0, 0, 0)
+    (2 ∷ [])
+    (sym 2 (some 2) 0 text ∷ [])
+    (fun 2 1 0 0 1 0 ∷ [])
+    (rel 2 7 0 64 ∷ [])
+    (insn 133 0 1 (pos 0) (pos 5) ∷ [])
+    (func 7 98 ∷ [])
+    [])
+    (1 ∷ []) (0 ∷ [])
+    [] 2 0
+    -- inside, refused by 3: nothing reached, function records, line records
     ∷ steps (tables
-    (1 ∷ 3 ∷ [])
-    (sym 1 (some 21) 48 other ∷ sym 4 (some 20) 51 section ∷ sym 8 (some 3) 0 text ∷ sym 12 (some 3) 0 section ∷ [])
-    (fun 3 2 0 0 0 1 ∷ [])
-    (rel 3 8 0 0 ∷ [])
-    (insn 133 0 1 (pos 0) (negsuc 2147483647) ∷ insn 133 0 1 (pos 0) (pos 38) ∷ [])
+    (2 ∷ 3 ∷ 4 ∷ [])
     []
-    (line 0 1 143 2141352358 ∷ []))
-    (0 ∷ []) (1 ∷ [])
-    (map-row 21 (some 1) (negsuc 1095544648) false ∷ map-row 20 none (pos 8) false ∷ []) 3 0
-    -- inside: 10 (2, false, 0, 0, 1)
+    (fun 2 2 2101248 4096 1 2 ∷ [])
+    (rel 2 1 4096 64 ∷ [])
+    (insn 24 5 0 (pos 0) (pos 5) ∷ insn 0 0 0 (pos 0) (pos 0) ∷ [])
+    (func 4294967295 62 ∷ [])
+    (line 0 2 4 2840332843 ∷ line 1 1 48 3129162828 ∷ []))
+    (1 ∷ []) (2 ∷ [])
+    (map-row 20 none (pos 43) false ∷ []) 2 2101248
+    -- inside, refused by 3: nothing reached, line records
+    ∷ steps (tables
+    (2 ∷ 3 ∷ 4 ∷ [])
+    (sym 2 (some 3) 2101218 section ∷ [])
+    (fun 3 3 2101248 4096 0 2 ∷ [])
+    (rel 3 7 4104 64 ∷ [])
+    (insn 5 0 0 (negsuc 1) (pos 0) ∷ insn 133 0 1 (pos 0) (pos 30) ∷ insn 149 0 0 (pos 0) (pos 0) ∷ [])
+    []
+    (line 37 2 235 2607691261 ∷ line 37 0 479 176847904 ∷ []))
+    (0 ∷ []) (2 ∷ [])
+    [] 3 2101248
+    -- inside, refused by 4: nothing reached
+    ∷ steps (tables
+    (3 ∷ 4 ∷ [])
+    (sym 2 none 4097 text ∷ [])
+    (fun 4 4 4096 4096 0 0 ∷ [])
+    (rel 4 2 4115 64 ∷ [])
+    (insn 24 6 0 (pos 0) (pos 928454293) ∷ insn 0 0 0 (pos 0) (pos 0) ∷ insn 133 0 1 (pos 0) (pos 0) ∷ insn 133 0 1 (pos 0) (negsuc 3) ∷ [])
+    []
+    [])
+    (0 ∷ []) (0 ∷ [])
+    [] 4 4096
+    -- inside, refused by 4: nothing reached, function records
+    ∷ steps (tables
+    (2 ∷ 3 ∷ [])
+    (sym 1 (some 3) 2101248 text ∷ [])
+    (fun 3 2 2101248 4096 1 0 ∷ [])
+    (rel 3 1 4108 32 ∷ [])
+    (insn 133 0 1 (pos 0) (pos 262143) ∷ insn 133 0 1 (pos 0) (negsuc 76) ∷ [])
+    (func 7 73 ∷ [])
+    [])
+    (1 ∷ []) (0 ∷ [])
+    [] 3 2101248
+    -- inside, refused by 4: nothing reached, function records, line records
+    ∷ steps (tables
+    (4 ∷ [])
+    (sym 2 (some 20) 55 text ∷ [])
+    (fun 4 1 0 0 1 2 ∷ [])
+    (rel 4 2 7 64 ∷ [])
+    (insn 149 3 0 (pos 0) (pos 0) ∷ [])
+    (func 0 31 ∷ [])
+    (line 0 0 360 4210358956 ∷ line 0 1 320 1764447614 ∷ []))
+    (1 ∷ []) (2 ∷ [])
+    [] 4 0
+    -- inside, refused by 4: nothing reached, line records
     ∷ steps (tables
     (3 ∷ [])
-    (sym 2 (some 3) 0 text ∷ [])
-    (fun 3 6 0 0 1 0 ∷ [])
-    (rel 3 2 32 64 ∷ [])
-    (insn 133 0 1 (pos 0) (negsuc 0) ∷ insn 149 0 0 (pos 0) (pos 0) ∷ insn 24 8 0 (pos 0) (pos 27) ∷ insn 0 0 0 (pos 0) (pos 0) ∷ insn 133 0 1 (pos 0) (negsuc 0) ∷ insn 133 0 1 (pos 0) (pos 2147483646) ∷ [])
-    (func 7 10 ∷ [])
+    (sym 0 (some 20) 16 section ∷ [])
+    (fun 3 2 0 0 0 2 ∷ [])
+    (rel 3 0 7 64 ∷ [])
+    (insn 24 9 0 (pos 0) (pos 31) ∷ insn 0 0 0 (pos 0) (negsuc 2) ∷ [])
+    []
+    (line 10 0 398 3426719950 ∷ line 11 0 438 2124392291 ∷ []))
+    (0 ∷ []) (2 ∷ [])
+    (map-row 20 none (pos 29) false ∷ []) 3 0
+    -- inside, refused by 5: nothing reached
+    ∷ steps (tables
+    (3 ∷ [])
+    (sym 1 (some 20) 35 section ∷ [])
+    (fun 3 3 0 0 0 1 ∷ [])
+    (rel 3 1 0 64 ∷ [])
+    (insn 24 7 0 (pos 0) (pos 4) ∷ insn 0 0 0 (pos 0) (negsuc 2) ∷ insn 133 0 0 (pos 0) (pos 1) ∷ [])
+    []
+    (line 0 0 441 3357732358 ∷ []))
+    (0 ∷ []) (1 ∷ [])
+    (map-row 34 (some 4000000000) (negsuc 1407864972) true ∷ []) 3 0
+    -- inside, refused by 5: nothing reached, function records
+    ∷ steps (tables
+    (3 ∷ [])
+    (sym 1 (some 20) 32 other ∷ [])
+    (fun 3 3 0 0 1 0 ∷ [])
+    (rel 3 1 0 0 ∷ [])
+    (insn 24 5 0 (pos 0) (negsuc 2147483647) ∷ insn 0 0 0 (pos 0) (negsuc 2) ∷ insn 149 0 0 (pos 0) (pos 0) ∷ [])
+    (func 0 5 ∷ [])
     [])
     (1 ∷ []) (0 ∷ [])
     [] 3 0
-    -- inside: 10 (2, false, 0, 1, 0)
+    -- inside, refused by 5: nothing reached, function records, line records
     ∷ steps (tables
-    (1 ∷ 2 ∷ [])
-    (sym 0 (some 1) 4097 text ∷ sym 3 (some 1) 4094 section ∷ [])
-    (fun 1 4 4096 4096 0 2 ∷ [])
-    (rel 1 0 4112 64 ∷ [])
-    (insn 133 0 1 (pos 1) (pos 1) ∷ insn 133 0 1 (pos 0) (negsuc 1) ∷ insn 24 1 0 (pos 0) (negsuc 2147483647) ∷ insn 0 0 0 (pos 0) (pos 0) ∷ [])
-    []
-    (line 0 1 52 3915763604 ∷ line 0 0 408 3808595382 ∷ []))
-    (0 ∷ []) (2 ∷ [])
-    [] 1 4096
-    -- inside: 10 (2, false, 0, 1, 1)
-    ∷ steps (tables
-    (1 ∷ 2 ∷ [])
-    []
-    (fun 2 3 2101248 4096 1 4 ∷ [])
-    []
-    (insn 133 0 0 (pos 0) (pos 1) ∷ insn 133 0 1 (pos 0) (pos 262142) ∷ insn 133 0 1 (pos 0) (negsuc 2147483647) ∷ [])
-    (func 99 9 ∷ [])
-    (line 0 0 225 3479629694 ∷ line 2 2 436 1182469951 ∷ line 2 1 126 1333858371 ∷ line 1 1 37 2566199231 ∷ []))
-    (1 ∷ []) (4 ∷ [])
-    [] 2 2101248
-    -- inside: 10 (2, false, 1, 0, 0)
-    ∷ steps (tables
-    (1 ∷ [])
-    (sym 0 (some 20) 62 other ∷ sym 2 (some 21) 7 other ∷ sym 5 (some 1) 8 text ∷ sym 8 (some 1) 0 section ∷ [])
-    (fun 1 6 0 0 0 0 ∷ [])
-    (rel 1 0 8 64 ∷ rel 1 5 32 64 ∷ [])
-    (insn 183 1 0 (pos 0) (pos 5) ∷ insn 24 8 0 (pos 9) (pos 43) ∷ insn 0 0 0 (pos 0) (pos 3) ∷ insn 133 0 1 (pos 0) (negsuc 3) ∷ insn 24 6 0 (pos 9) (negsuc 0) ∷ insn 0 0 0 (pos 0) (pos 0) ∷ [])
-    []
-    [])
-    (0 ∷ []) (0 ∷ [])
-    (map-row 33 (some 2) (pos 1487086966) true ∷ map-row 20 none (pos 53) false ∷ []) 1 0
-    -- inside: 10 (2, false, 1, 0, 1)
-    ∷ steps (tables
-    (1 ∷ 2 ∷ 4 ∷ [])
-    (sym 1 (some 4) 8189 section ∷ sym 4 (some 20) 18 other ∷ sym 7 (some 4) 8192 text ∷ [])
-    (fun 4 6 8192 8192 1 0 ∷ [])
-    (rel 4 4 8216 64 ∷ [])
-    (insn 143 2 7 (negsuc 2890) (pos 1823553279) ∷ insn 5 0 0 (negsuc 1) (pos 0) ∷ insn 133 0 1 (pos 0) (negsuc 2) ∷ insn 24 0 0 (pos 0) (negsuc 1) ∷ insn 0 0 0 (pos 0) (pos 3) ∷ insn 133 0 1 (pos 0) (negsuc 2147483647) ∷ [])
-    (func 99 21 ∷ [])
-    [])
-    (1 ∷ []) (0 ∷ [])
-    (map-row 20 none (pos 19) false ∷ []) 4 8192
-    -- inside: 10 (2, false, 1, 1, 0)
-    ∷ steps (tables
-    (1 ∷ 2 ∷ 4 ∷ [])
-    (sym 2 (some 20) 18 other ∷ sym 3 (some 1) 4096 text ∷ sym 5 (some 1) 4070 section ∷ [])
-    (fun 1 5 4096 4096 0 2 ∷ [])
-    (rel 1 2 4104 64 ∷ [])
-    (insn 133 0 1 (pos 0) (negsuc 0) ∷ insn 24 0 0 (pos 9) (negsuc 2147483647) ∷ insn 0 0 0 (pos 0) (pos 0) ∷ insn 133 0 1 (pos 0) (pos 2147483646) ∷ insn 149 0 0 (pos 0) (pos 0) ∷ [])
-    []
-    (line 0 2 371 484272403 ∷ line 0 0 90 3025662841 ∷ []))
-    (0 ∷ []) (2 ∷ [])
-    (map-row 20 none (negsuc 1726134238) false ∷ []) 1 4096
-    -- inside: 10 (2, false, 1, 1, 1)
-    ∷ steps (tables
-    (1 ∷ 2 ∷ 4 ∷ [])
-    (sym 1 (some 2) 4075 section ∷ sym 4 (some 21) 37 other ∷ sym 7 (some 20) 6 section ∷ sym 8 (some 2) 4096 text ∷ [])
-    (fun 2 4 4096 4096 2 2 ∷ [])
-    (rel 2 7 4096 32 ∷ [])
-    (insn 24 2 0 (pos 0) (negsuc 733798746) ∷ insn 0 0 0 (pos 0) (pos 0) ∷ insn 133 0 1 (pos 0) (negsuc 2) ∷ insn 133 0 1 (pos 0) (pos 1000) ∷ [])
-    (func 7 73 ∷ func 0 5 ∷ [])
-    (line 37 1 50 1466166734 ∷ line 39 0 380 6659273 ∷ []))
-    (2 ∷ []) (2 ∷ [])
-    (map-row 20 none (pos 1061207548) false ∷ map-row 21 (some 4) (negsuc 0) false ∷ []) 2 4096
-    -- inside: 3 (0, false, 0, 0, 0)
-    ∷ steps (tables
-    (1 ∷ 3 ∷ 4 ∷ [])
-    (sym 0 (some 21) 42 other ∷ sym 2 (some 9) 12288 text ∷ [])
-    (fun 9 4 12288 12288 0 0 ∷ [])
-    (rel 9 7 12288 64 ∷ [])
-    (insn 133 0 1 (pos 0) (negsuc 2147483647) ∷ insn 5 0 0 (negsuc 1) (pos 0) ∷ insn 149 0 0 (pos 0) (pos 0) ∷ insn 149 0 0 (pos 0) (pos 0) ∷ [])
-    []
-    [])
-    (0 ∷ []) (0 ∷ [])
-    (map-row 21 (some 0) (pos 36) true ∷ []) 9 12288
-    ∷ [])
-    ≡ (
-    (leaves (insn 133 0 1 (pos 0) (pos 3) ∷ insn 24 4 1 (pos 0) (pos 40) ∷ insn 0 0 0 (pos 0) (pos 0) ∷ insn 149 0 0 (pos 0) (pos 0) ∷ insn 133 0 1 (pos 0) (negsuc 0) ∷ insn 133 0 1 (pos 0) (negsuc 5) ∷ insn 133 0 1 (pos 1) (pos 1) ∷ []) ∷ errs unknown-function ∷ [])
-    ∷ (leaves (insn 133 0 1 (pos 0) (negsuc 2147483647) ∷ insn 133 0 1 (pos 0) (pos 38) ∷ []) ∷ errs unknown-function ∷ [])
-    ∷ (leaves (insn 133 0 1 (pos 0) (negsuc 0) ∷ insn 149 0 0 (pos 0) (pos 0) ∷ insn 24 8 0 (pos 0) (pos 27) ∷ insn 0 0 0 (pos 0) (pos 0) ∷ insn 133 0 1 (pos 0) (negsuc 0) ∷ insn 133 0 1 (pos 0) (pos 2147483646) ∷ []) ∷ errs unknown-function ∷ [])
-    ∷ (leaves (insn 133 0 1 (pos 1) (pos 1) ∷ insn 133 0 1 (pos 0) (negsuc 1) ∷ insn 24 1 0 (pos 0) (negsuc 2147483647) ∷ insn 0 0 0 (pos 0) (pos 0) ∷ []) ∷ errs unknown-function ∷ [])
-    ∷ (leaves (insn 133 0 0 (pos 0) (pos 1) ∷ insn 133 0 1 (pos 0) (pos 262142) ∷ insn 133 0 1 (pos 0) (negsuc 2147483647) ∷ []) ∷ errs unknown-function ∷ [])
-    ∷ (leaves (insn 183 1 0 (pos 0) (pos 5) ∷ insn 24 8 1 (pos 9) (pos 53) ∷ insn 0 0 0 (pos 0) (pos 3) ∷ insn 133 0 1 (pos 0) (negsuc 3) ∷ insn 24 6 0 (pos 9) (negsuc 0) ∷ insn 0 0 0 (pos 0) (pos 0) ∷ []) ∷ errs unknown-function ∷ [])
-    ∷ (leaves (insn 143 2 7 (negsuc 2890) (pos 1823553279) ∷ insn 5 0 0 (negsuc 1) (pos 0) ∷ insn 133 0 1 (pos 0) (negsuc 2) ∷ insn 24 0 1 (pos 0) (pos 19) ∷ insn 0 0 0 (pos 0) (pos 3) ∷ insn 133 0 1 (pos 0) (negsuc 2147483647) ∷ []) ∷ errs unknown-function ∷ [])
-    ∷ (leaves (insn 133 0 1 (pos 0) (negsuc 0) ∷ insn 24 0 1 (pos 9) (negsuc 1726134238) ∷ insn 0 0 0 (pos 0) (pos 0) ∷ insn 133 0 1 (pos 0) (pos 2147483646) ∷ insn 149 0 0 (pos 0) (pos 0) ∷ []) ∷ errs unknown-function ∷ [])
-    ∷ (leaves (insn 24 2 1 (pos 0) (pos 1061207548) ∷ insn 0 0 0 (pos 0) (pos 0) ∷ insn 133 0 1 (pos 0) (negsuc 2) ∷ insn 133 0 1 (pos 0) (pos 1000) ∷ []) ∷ errs unknown-function ∷ [])
-    ∷ (errs unknown-symbol ∷ errs unknown-symbol ∷ [])
-    ∷ [])
-unfolding signed u32 u64 i32 add-u64 mul-u64 add-u32 sub-u32 add-i32 sub-i32 insn-is-call relocate-map relocate-maps relocate-functions object-relocate-maps slot-of relocate-from relocate link-new Crate.link relocate-calls crateOf both-steps
-vectors-12 = refl
-
-vectors-13 : (
-    -- inside: 3 (0, false, 0, 0, 1)
-    steps (tables
-    (2 ∷ 4 ∷ [])
-    (sym 2 (some 4) 2101211 section ∷ [])
-    (fun 4 2 2101248 4096 1 0 ∷ [])
-    (rel 4 7 4096 64 ∷ [])
-    (insn 133 0 1 (pos 0) (pos 37) ∷ insn 133 0 1 (pos 0) (pos 262142) ∷ [])
-    (func 0 61 ∷ [])
-    [])
-    (1 ∷ []) (0 ∷ [])
-    [] 4 2101248
-    -- inside: 3 (0, false, 0, 1, 0)
-    ∷ steps (tables
-    (2 ∷ 4 ∷ [])
-    (sym 0 (some 4) 2101248 text ∷ sym 1 (some 4) 2101016 section ∷ [])
-    (fun 4 5 2101248 4096 0 2 ∷ [])
-    (rel 4 2049 4120 32 ∷ [])
-    (insn 24 2 0 (pos 0) (negsuc 0) ∷ insn 0 0 0 (pos 0) (pos 3) ∷ insn 133 0 1 (pos 0) (pos 262141) ∷ insn 24 1 0 (pos 9) (pos 28) ∷ insn 0 0 0 (pos 0) (pos 0) ∷ [])
-    []
-    (line 37 0 276 3033469527 ∷ line 39 2 28 1044252494 ∷ []))
-    (0 ∷ []) (2 ∷ [])
-    [] 4 2101248
-    -- inside: 3 (0, false, 0, 1, 1)
-    ∷ steps (tables
-    (1 ∷ 4 ∷ [])
-    (sym 0 (some 1) 2101248 text ∷ [])
-    (fun 1 3 2101248 4096 1 2 ∷ [])
-    (rel 1 5 4096 64 ∷ [])
-    (insn 24 2 0 (pos 9) (pos 5) ∷ insn 0 0 0 (pos 0) (pos 3) ∷ insn 5 0 0 (negsuc 1) (pos 0) ∷ [])
-    (func 7 79 ∷ [])
-    (line 10 0 212 3638075202 ∷ line 10 1 53 4151945615 ∷ []))
+    (1028 ∷ [])
+    (sym 2 (some 4) 0 section ∷ [])
+    (fun 4 4 0 0 1 2 ∷ [])
+    (rel 4 2 0 32 ∷ [])
+    (insn 24 0 0 (pos 9) (negsuc 0) ∷ insn 0 0 0 (pos 0) (negsuc 2) ∷ insn 133 0 1 (pos 0) (pos 37) ∷ insn 183 1 0 (pos 0) (pos 5) ∷ [])
+    (func 7 2 ∷ [])
+    (line 37 0 35 4048400462 ∷ line 40 2 74 3131654041 ∷ []))
     (1 ∷ []) (2 ∷ [])
-    [] 1 2101248
-    -- inside: 4 (0, false, 0, 0, 0)
-    ∷ steps (tables
-    (2 ∷ [])
-    (sym 0 (some 2) 0 section ∷ sym 2 none 5 section ∷ [])
-    (fun 2 2 0 0 0 0 ∷ [])
-    (rel 2 0 10 64 ∷ [])
-    (insn 133 0 1 (pos 1) (pos 1) ∷ insn 133 0 1 (pos 0) (pos 0) ∷ [])
-    []
-    [])
-    (0 ∷ []) (0 ∷ [])
-    [] 2 0
-    -- inside: 4 (0, false, 0, 0, 1)
-    ∷ steps (tables
-    (1 ∷ 3 ∷ 4 ∷ [])
-    (sym 0 (some 21) 32 other ∷ [])
-    (fun 4 2 0 0 1 0 ∷ [])
-    (rel 4 0 6 0 ∷ [])
-    (insn 24 5 0 (pos 0) (negsuc 38734003) ∷ insn 0 0 0 (pos 0) (pos 0) ∷ [])
-    (func 0 53 ∷ [])
-    [])
-    (1 ∷ []) (0 ∷ [])
-    (map-row 21 (some 0) (pos 31) true ∷ []) 4 0
-    -- inside: 4 (0, false, 0, 1, 0)
-    ∷ steps (tables
-    (2 ∷ 3 ∷ [])
-    (sym 1 (some 2) 1048272 section ∷ [])
-    (fun 2 1 1048576 0 0 2 ∷ [])
-    (rel 2 1 5 32 ∷ [])
-    (insn 133 0 1 (pos 0) (pos 37) ∷ [])
-    []
-    (line 0 2 133 2879974320 ∷ line 0 2 490 82814233 ∷ []))
-    (0 ∷ []) (2 ∷ [])
-    [] 2 1048576
-    -- inside: 4 (0, false, 0, 1, 1)
-    ∷ steps (tables
-    (1 ∷ 4 ∷ [])
-    (sym 0 (some 21) 11 other ∷ [])
-    (fun 4 5 137437904888 0 1 2 ∷ [])
-    (rel 4 0 22 64 ∷ [])
-    (insn 133 0 0 (pos 0) (pos 1) ∷ insn 24 3 0 (pos 0) (pos 0) ∷ insn 24 9 4 (pos 0) (pos 51) ∷ insn 0 0 0 (pos 0) (negsuc 2) ∷ insn 149 0 0 (pos 0) (pos 0) ∷ [])
-    (func 4294967295 5 ∷ [])
-    (line 10 0 366 555373259 ∷ line 14 1 421 2238037928 ∷ []))
-    (1 ∷ []) (2 ∷ [])
-    (map-row 21 (some 105) (pos 13) false ∷ []) 4 137437904888
-    -- inside: 5 (0, false, 0, 0, 0)
-    ∷ steps (tables
-    (3 ∷ [])
-    (sym 2 (some 3) 0 section ∷ sym 6 (some 21) 45 other ∷ [])
-    (fun 3 6 0 0 0 0 ∷ [])
-    (rel 3 6 16 64 ∷ [])
-    (insn 133 0 1 (pos 0) (negsuc 0) ∷ insn 133 0 1 (pos 1) (pos 1) ∷ insn 24 1 0 (pos 0) (negsuc 3) ∷ insn 0 0 0 (pos 0) (pos 0) ∷ insn 133 0 1 (pos 0) (negsuc 4) ∷ insn 149 0 0 (pos 0) (pos 0) ∷ [])
-    []
-    [])
-    (0 ∷ []) (0 ∷ [])
-    (map-row 34 (some 4000000000) (negsuc 0) true ∷ []) 3 0
-    -- inside: 5 (0, false, 0, 0, 1)
-    ∷ steps (tables
-    (3 ∷ [])
-    (sym 2 (some 21) 52 other ∷ sym 7 (some 22) 42 section ∷ [])
-    (fun 9 4 4096 4096 1 0 ∷ [])
-    (rel 9 7 4112 64 ∷ [])
-    (insn 133 0 1 (pos 0) (negsuc 0) ∷ insn 133 0 0 (pos 0) (pos 1) ∷ insn 24 1 0 (pos 0) (pos 3) ∷ insn 0 0 0 (pos 0) (pos 0) ∷ [])
-    (func 0 3 ∷ [])
-    [])
-    (1 ∷ []) (0 ∷ [])
-    (map-row 33 (some 2) (pos 1829647260) false ∷ []) 9 4096
-    -- inside: 5 (0, false, 0, 1, 0)
-    ∷ steps (tables
-    (1 ∷ 4 ∷ [])
-    (sym 1 (some 1) 1048576 text ∷ sym 6 (some 65535) 76 other ∷ [])
-    (fun 1 5 1048576 0 0 2 ∷ [])
-    (rel 1 6 24 64 ∷ [])
-    (insn 24 13 4 (pos 0) (pos 30) ∷ insn 0 0 0 (pos 0) (pos 3) ∷ insn 133 0 1 (pos 0) (pos 131069) ∷ insn 24 1 0 (pos 0) (pos 3) ∷ insn 0 0 0 (pos 0) (pos 0) ∷ [])
-    []
-    (line 37 0 361 3191754303 ∷ line 38 2 358 2106470662 ∷ []))
-    (0 ∷ []) (2 ∷ [])
-    [] 1 1048576
+    [] 4 0
     ∷ [])
     ≡ (
     (errs unknown-symbol ∷ errs unknown-symbol ∷ [])
@@ -1739,31 +1612,31 @@ vectors-13 : (
     ∷ (errs section-not-found ∷ errs section-not-found ∷ [])
     ∷ [])
 unfolding signed u32 u64 i32 add-u64 mul-u64 add-u32 sub-u32 add-i32 sub-i32 insn-is-call relocate-map relocate-maps relocate-functions object-relocate-maps slot-of relocate-from relocate link-new Crate.link relocate-calls crateOf both-steps
-vectors-13 = refl
+vectors-12 = refl
 
-vectors-14 : (
-    -- inside: 5 (0, false, 0, 1, 1)
+vectors-13 : (
+    -- inside, refused by 5: nothing reached, line records
     steps (tables
-    (1 ∷ [])
-    (sym 5 (some 22) 25 other ∷ [])
-    (fun 1 4 0 0 1 3 ∷ [])
-    (rel 1 5 16 64 ∷ [])
-    (insn 24 6 0 (pos 0) (negsuc 692809784) ∷ insn 0 0 0 (pos 0) (pos 0) ∷ insn 24 1 0 (pos 0) (pos 3) ∷ insn 0 0 0 (pos 0) (pos 0) ∷ [])
-    (func 7 52 ∷ [])
-    (line 4294967286 2 305 3165289414 ∷ line 4294967286 2 420 3372474393 ∷ line 4294967287 0 153 2336468292 ∷ []))
-    (1 ∷ []) (3 ∷ [])
-    (map-row 25 none (negsuc 1440471750) true ∷ []) 1 0
-    -- num_info of the root:
+    (1 ∷ 2 ∷ 4 ∷ [])
+    (sym 5 (some 65535) 51 section ∷ [])
+    (fun 1 6 3153920 8192 0 2 ∷ [])
+    (rel 1 5 8224 64 ∷ [])
+    (insn 24 3 0 (pos 0) (pos 0) ∷ insn 133 0 1 (pos 0) (pos 393214) ∷ insn 24 0 0 (pos 9) (pos 12) ∷ insn 0 0 0 (pos 0) (pos 3) ∷ insn 24 1 0 (pos 0) (pos 3) ∷ insn 0 0 0 (pos 0) (pos 0) ∷ [])
+    []
+    (line 37 2 201 2721974596 ∷ line 38 2 341 1346305623 ∷ []))
+    (0 ∷ []) (2 ∷ [])
+    [] 1 3153920
+    -- num_info of the root: equal all the same
     ∷ steps (tables
     []
     []
-    (fun 2 1 4096 4096 0 1 ∷ [])
+    (fun 2 1 1048576 0 0 0 ∷ [])
     []
-    (insn 133 0 1 (pos 0) (negsuc 0) ∷ [])
+    (insn 133 0 1 (pos 0) (pos 131071) ∷ [])
     []
-    (line 10 1 374 1065637317 ∷ []))
-    (1 ∷ []) (6 ∷ [])
-    [] 2 4096
+    [])
+    (4294967295 ∷ []) (0 ∷ [])
+    [] 2 1048576
     -- num_info of the root: num_info of the function records
     ∷ steps (tables
     []
@@ -1773,116 +1646,97 @@ vectors-14 : (
     (insn 149 0 0 (pos 0) (pos 0) ∷ [])
     []
     [])
-    (4294967295 ∷ []) (1 ∷ [])
+    (5 ∷ []) (0 ∷ [])
     [] 4 0
     -- num_info of the root: num_info of the line records
     ∷ steps (tables
     []
     []
-    (fun 1 1 5 0 0 0 ∷ [])
+    (fun 1 1 0 0 0 0 ∷ [])
     []
-    (insn 149 0 0 (pos 0) (pos 0) ∷ [])
+    (insn 133 0 1 (pos 0) (negsuc 0) ∷ [])
     []
     [])
-    (0 ∷ []) (4294967295 ∷ [])
-    [] 1 5
+    (4294967295 ∷ []) (1 ∷ [])
+    [] 1 0
     -- reached callees of one address: the image's slots
     ∷ steps (tables
-    (3 ∷ [])
-    (sym 4 (some 3) 0 section ∷ [])
-    (fun 1 3 0 0 0 0 ∷ fun 3 1 0 0 0 0 ∷ [])
-    (rel 1 4 8 64 ∷ [])
-    (insn 133 0 1 (pos 0) (negsuc 0) ∷ insn 24 4 0 (pos 0) (pos 0) ∷ insn 0 0 0 (pos 0) (pos 3) ∷ insn 149 0 0 (pos 0) (pos 0) ∷ [])
+    []
+    (sym 2 (some 4) 0 text ∷ [])
+    (fun 3 2 0 0 0 0 ∷ fun 4 1 0 0 0 0 ∷ [])
+    (rel 3 2 8 0 ∷ [])
+    (insn 133 0 1 (pos 0) (negsuc 0) ∷ insn 133 0 1 (pos 0) (pos 5) ∷ insn 149 0 0 (pos 0) (pos 0) ∷ [])
     []
     [])
     (0 ∷ 0 ∷ []) (0 ∷ 0 ∷ [])
-    [] 1 0
-    -- top immediate in a call:
+    [] 3 0
+    -- top immediate in a call: equal all the same
     ∷ steps (tables
     []
     []
-    (fun 3 1 0 0 0 0 ∷ [])
+    (fun 4 1 0 0 0 0 ∷ [])
     []
     (insn 133 0 1 (pos 0) (pos 2147483647) ∷ [])
     []
     [])
     (0 ∷ []) (0 ∷ [])
-    [] 3 0
+    [] 4 0
     -- top immediate in a call: link: ours 0, the crate UnknownFunction
     ∷ steps (tables
     []
     []
-    (fun 2 2 4096 4096 0 0 ∷ fun 2 1 17179873288 17179873288 0 0 ∷ [])
+    (fun 4 1 1048576 0 0 0 ∷ fun 4 1 17179869184 17179869184 0 0 ∷ [])
     []
-    (insn 149 0 0 (pos 0) (pos 0) ∷ insn 133 0 1 (pos 0) (pos 2147483647) ∷ insn 149 0 0 (pos 0) (pos 0) ∷ [])
-    []
-    [])
-    (0 ∷ 0 ∷ []) (0 ∷ 0 ∷ [])
-    [] 2 4096
-    -- top immediate in a call; top immediate, size-32 reference:
-    ∷ steps (tables
-    (1 ∷ [])
-    (sym 6 (some 1) 2101248 text ∷ [])
-    (fun 1 2 2101248 4096 0 0 ∷ [])
-    (rel 1 6 4104 32 ∷ [])
-    (insn 149 0 0 (pos 0) (pos 0) ∷ insn 133 0 1 (pos 0) (pos 2147483647) ∷ [])
-    []
-    [])
-    (0 ∷ []) (0 ∷ [])
-    [] 1 2101248
-    -- top immediate in a call; top immediate, size-32 reference: link: ours 0, the crate UnknownFunction
-    ∷ steps (tables
-    (1 ∷ [])
-    (sym 1 (some 1) 0 section ∷ [])
-    (fun 1 1 0 0 0 0 ∷ fun 1 1 17179869184 17179869192 0 0 ∷ [])
-    (rel 1 1 0 32 ∷ [])
     (insn 133 0 1 (pos 0) (pos 2147483647) ∷ insn 149 0 0 (pos 0) (pos 0) ∷ [])
     []
     [])
-    (0 ∷ 0 ∷ []) (0 ∷ 0 ∷ [])
-    [] 1 0
-    -- top immediate, size-32 reference:
+    (0 ∷ 76419207 ∷ []) (0 ∷ 3164500037 ∷ [])
+    [] 4 1048576
+    -- top immediate in a call: the image's slots
     ∷ steps (tables
-    (2 ∷ [])
-    (sym 3 (some 2) 0 text ∷ [])
-    (fun 2 2 0 0 0 0 ∷ [])
-    (rel 2 3 0 32 ∷ [])
-    (insn 24 2 0 (pos 0) (pos 2147483647) ∷ insn 0 0 0 (pos 0) (pos 3) ∷ [])
+    []
+    []
+    (fun 1 1 2146435064 0 0 0 ∷ fun 1 1 2146435072 19326304248 0 0 ∷ fun 1 1 36506173432 36506173432 0 0 ∷ [])
+    []
+    (insn 24 3 0 (pos 0) (pos 0) ∷ insn 133 0 1 (pos 0) (pos 2147483647) ∷ insn 149 0 0 (pos 0) (pos 0) ∷ [])
+    []
+    [])
+    (1104995500 ∷ 0 ∷ 1104995500 ∷ []) (2069852357 ∷ 0 ∷ 2069852357 ∷ [])
+    [] 1 2146435072
+    -- top immediate, size-32 reference: equal all the same
+    ∷ steps (tables
+    (4 ∷ [])
+    (sym 0 (some 4) 8192 text ∷ [])
+    (fun 4 2 8192 8192 0 0 ∷ [])
+    (rel 4 0 8192 32 ∷ [])
+    (insn 24 8 0 (pos 9) (pos 2147483647) ∷ insn 0 0 0 (pos 0) (pos 0) ∷ [])
     []
     [])
     (0 ∷ []) (0 ∷ [])
+    [] 4 8192
+    -- top immediate, size-32 reference: link: ours 0, the crate UnknownFunction
+    ∷ steps (tables
+    (2 ∷ [])
+    (sym 0 (some 2) 0 section ∷ [])
+    (fun 2 2 0 0 0 0 ∷ fun 2 1 17179869184 17179869192 0 0 ∷ [])
+    (rel 2 0 0 32 ∷ [])
+    (insn 24 6 0 (pos 9) (pos 2147483647) ∷ insn 0 0 0 (pos 0) (pos 0) ∷ insn 149 0 0 (pos 0) (pos 0) ∷ [])
+    []
+    [])
+    (0 ∷ 1209196067 ∷ []) (0 ∷ 3043533275 ∷ [])
     [] 2 0
     ∷ [])
     ≡ (
     (errs section-not-found ∷ errs section-not-found ∷ [])
-    ∷ (leaves (insn 133 0 1 (pos 0) (negsuc 0) ∷ []) ∷ gives (insn 133 0 1 (pos 0) (pos 0) ∷ insn 133 0 1 (pos 0) (negsuc 0) ∷ []) [] 0 (line 10 1 374 1065637317 ∷ line 1 1 374 1065637317 ∷ []) 2 ∷ [])
-    ∷ (leaves (insn 149 0 0 (pos 0) (pos 0) ∷ []) ∷ gives (insn 149 0 0 (pos 0) (pos 0) ∷ []) [] 4294967295 [] 1 ∷ [])
-    ∷ (leaves (insn 149 0 0 (pos 0) (pos 0) ∷ []) ∷ gives (insn 149 0 0 (pos 0) (pos 0) ∷ []) [] 0 [] 4294967295 ∷ [])
-    ∷ (leaves (insn 133 0 1 (pos 0) (negsuc 0) ∷ insn 24 4 0 (pos 0) (pos 0) ∷ insn 0 0 0 (pos 0) (pos 3) ∷ insn 149 0 0 (pos 0) (pos 0) ∷ []) ∷ gives (insn 133 0 1 (pos 0) (pos 2) ∷ insn 24 4 4 (pos 0) (pos 1) ∷ insn 0 0 0 (pos 0) (pos 3) ∷ insn 133 0 1 (pos 0) (negsuc 0) ∷ insn 24 4 4 (pos 0) (negsuc 1) ∷ insn 0 0 0 (pos 0) (pos 3) ∷ []) [] 0 [] 0 ∷ [])
+    ∷ (leaves (insn 133 0 1 (pos 0) (pos 131071) ∷ []) ∷ gives (insn 133 0 1 (pos 0) (pos 0) ∷ insn 133 0 1 (pos 0) (negsuc 0) ∷ []) [] 0 [] 0 ∷ [])
+    ∷ (leaves (insn 149 0 0 (pos 0) (pos 0) ∷ []) ∷ gives (insn 149 0 0 (pos 0) (pos 0) ∷ []) [] 5 [] 0 ∷ [])
+    ∷ (leaves (insn 133 0 1 (pos 0) (negsuc 0) ∷ []) ∷ gives (insn 133 0 1 (pos 0) (pos 0) ∷ insn 133 0 1 (pos 0) (negsuc 0) ∷ []) [] 0 [] 1 ∷ [])
+    ∷ (leaves (insn 133 0 1 (pos 0) (negsuc 0) ∷ insn 133 0 1 (pos 0) (pos 5) ∷ insn 149 0 0 (pos 0) (pos 0) ∷ []) ∷ gives (insn 133 0 1 (pos 0) (pos 1) ∷ insn 133 0 1 (pos 0) (pos 0) ∷ insn 133 0 1 (pos 0) (negsuc 0) ∷ insn 133 0 1 (pos 0) (negsuc 1) ∷ []) [] 0 [] 0 ∷ [])
     ∷ (leaves (insn 133 0 1 (pos 0) (pos 2147483647) ∷ []) ∷ errs unknown-function ∷ [])
-    ∷ (leaves (insn 149 0 0 (pos 0) (pos 0) ∷ insn 133 0 1 (pos 0) (pos 2147483647) ∷ insn 149 0 0 (pos 0) (pos 0) ∷ []) ∷ errs unknown-function ∷ [])
-    ∷ (leaves (insn 149 0 0 (pos 0) (pos 0) ∷ insn 133 0 1 (pos 0) (pos 2147483647) ∷ []) ∷ gives (insn 149 0 0 (pos 0) (pos 0) ∷ insn 133 0 1 (pos 0) (pos 0) ∷ insn 149 0 0 (pos 0) (pos 0) ∷ insn 133 0 1 (pos 0) (negsuc 1) ∷ []) [] 0 [] 0 ∷ [])
     ∷ (leaves (insn 133 0 1 (pos 0) (pos 2147483647) ∷ insn 149 0 0 (pos 0) (pos 0) ∷ []) ∷ errs unknown-function ∷ [])
-    ∷ (leaves (insn 24 2 0 (pos 0) (pos 2147483647) ∷ insn 0 0 0 (pos 0) (pos 3) ∷ []) ∷ gives (insn 24 2 4 (pos 0) (pos 1) ∷ insn 0 0 0 (pos 0) (pos 3) ∷ insn 24 2 4 (pos 0) (negsuc 0) ∷ insn 0 0 0 (pos 0) (pos 3) ∷ []) [] 0 [] 0 ∷ [])
+    ∷ (leaves (insn 24 3 0 (pos 0) (pos 0) ∷ insn 133 0 1 (pos 0) (pos 2147483647) ∷ insn 149 0 0 (pos 0) (pos 0) ∷ []) ∷ gives (insn 133 0 1 (pos 0) (pos 0) ∷ insn 24 3 0 (pos 0) (pos 0) ∷ []) [] 0 [] 0 ∷ [])
+    ∷ (leaves (insn 24 8 0 (pos 9) (pos 2147483647) ∷ insn 0 0 0 (pos 0) (pos 0) ∷ []) ∷ gives (insn 24 8 4 (pos 9) (pos 1) ∷ insn 0 0 0 (pos 0) (pos 0) ∷ insn 24 8 4 (pos 9) (negsuc 0) ∷ insn 0 0 0 (pos 0) (pos 0) ∷ []) [] 0 [] 0 ∷ [])
+    ∷ (leaves (insn 24 6 0 (pos 9) (pos 2147483647) ∷ insn 0 0 0 (pos 0) (pos 0) ∷ insn 149 0 0 (pos 0) (pos 0) ∷ []) ∷ errs unknown-function ∷ [])
     ∷ [])
 unfolding signed u32 u64 i32 add-u64 mul-u64 add-u32 sub-u32 add-i32 sub-i32 insn-is-call relocate-map relocate-maps relocate-functions object-relocate-maps slot-of relocate-from relocate link-new Crate.link relocate-calls crateOf both-steps
-vectors-14 = refl
-
-vectors-15 : (
-    -- top immediate, size-32 reference: link: ours 0, the crate UnknownFunction
-    steps (tables
-    (2 ∷ [])
-    (sym 1 (some 2) 0 section ∷ [])
-    (fun 2 4 0 0 0 0 ∷ fun 2 1 17179869184 17179869192 0 0 ∷ [])
-    (rel 2 1 16 32 ∷ [])
-    (insn 149 0 0 (pos 0) (pos 0) ∷ insn 149 0 0 (pos 0) (pos 0) ∷ insn 24 5 0 (pos 0) (pos 2147483647) ∷ insn 0 0 0 (pos 0) (negsuc 2) ∷ insn 149 0 0 (pos 0) (pos 0) ∷ [])
-    []
-    [])
-    (0 ∷ 4044892973 ∷ []) (0 ∷ 3641839932 ∷ [])
-    [] 2 0
-    ∷ [])
-    ≡ (
-    (leaves (insn 149 0 0 (pos 0) (pos 0) ∷ insn 149 0 0 (pos 0) (pos 0) ∷ insn 24 5 0 (pos 0) (pos 2147483647) ∷ insn 0 0 0 (pos 0) (negsuc 2) ∷ insn 149 0 0 (pos 0) (pos 0) ∷ []) ∷ errs unknown-function ∷ [])
-    ∷ [])
-unfolding signed u32 u64 i32 add-u64 mul-u64 add-u32 sub-u32 add-i32 sub-i32 insn-is-call relocate-map relocate-maps relocate-functions object-relocate-maps slot-of relocate-from relocate link-new Crate.link relocate-calls crateOf both-steps
-vectors-15 = refl
+vectors-13 = refl
