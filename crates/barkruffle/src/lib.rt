@@ -6,11 +6,16 @@ use info::line_info_record_number;
 use linker::link;
 use maps::relocate_maps;
 use rules::Answer;
+use symbols::SYMBOL_SIZE;
+use symbols::Symbol;
+use symbols::lay_rows;
+use symbols::rows_needed;
 use wire::put_places;
+use wire::wipe;
 ghost use mathlib.Core.Path.{_≡_};
 ghost use mathlib.Core.List.{[], _∷_};
 ghost use lib.Dec.{eqb};
-ghost use lib.ListN.{length};
+ghost use lib.ListN.{length, take};
 ghost use Rattle.rules.specs.declared.Table.the-variants.{FuncInfo, LineInfo};
 ghost use Rattle.rules.specs.Bytes.{little};
 ghost use Rattle.rules.specs.Answers.{replyOf};
@@ -19,7 +24,9 @@ ghost use Rattle.rules.specs.Entries.{linkEntry, mapEntry};
 ghost use Rattle.rules.specs.Readers.{readRecords, recordReply};
 ghost use Rattle.info.specs.Promises.{given};
 ghost use Rattle.linker.specs.Linker.{buffers, lentBy};
-ghost use Rattle.barkruffle.specs.Promises.{Told, LinkTold, MapTold, ReadTold, Placed, Stands};
+ghost use Rattle.symbols.specs.Symbols.{bytesOf, bytesNeeded, laidIn};
+ghost use Rattle.barkruffle.specs.Promises.{Told, LinkTold, MapTold, ReadTold, Placed, Stands, RowsTold};
+ghost use Rattle.barkruffle.specs.LinkRows.{linkRowsEntry};
 
 fn number_of(a: Answer) -> u32
     ensures { λ r. ⌜ r ≡ replyOf a .number ⌝ }
@@ -124,6 +131,88 @@ pub extern "C" fn barkruffle_link(
         root,
     );
     tell(a, places)
+}
+
+// A scratch that is too short for the rows: no number of document 01 or 02.
+const SHORT_SCRATCH: u32 = 32;
+
+// The link over the rows that were laid into the scratch, of so many that were lent.
+fn link_laid(
+    code: &[u8],
+    count: usize,
+    functions: &[u8],
+    relocations: &[u8],
+    instructions: &[u8],
+    func_info: &[u8],
+    line_info: &[u8],
+    root: u32,
+    image: &mut [u8],
+    image_func_info: &mut [u8],
+    image_line_info: &mut [u8],
+    places: &mut [u8],
+    scratch: &mut [u8],
+) -> u32
+    ensures { λ r. ⌜ RowsTold (now (places .entry)) (now (places .exit)) (buffers (now (image .exit)) (now («image_func_info» .exit)) (now («image_line_info» .exit))) r (linkRowsEntry count (length (now (scratch .entry))) (linkOffer (now (code .entry)) (take (bytesNeeded count) (now (scratch .entry))) (now (functions .entry)) (now (relocations .entry)) (now (instructions .entry)) (now («func_info» .entry)) (now («line_info» .entry))) root (lentBy (buffers (now (image .entry)) (now («image_func_info» .entry)) (now («image_line_info» .entry))))) (now (scratch .exit)) (now (scratch .entry)) ⌝ }
+{
+    let end = SYMBOL_SIZE * rows_needed(count);
+    if scratch.len() < end {
+        wipe(image);
+        wipe(image_func_info);
+        wipe(image_line_info);
+        put_places(places, 0, 0, 0);
+        return SHORT_SCRATCH;
+    }
+    barkruffle_link(
+        code,
+        &scratch[..end],
+        functions,
+        relocations,
+        instructions,
+        func_info,
+        line_info,
+        root,
+        image,
+        image_func_info,
+        image_line_info,
+        places,
+    )
+}
+
+// The link with table 2 lent as rows. They are laid into the scratch, and linked from there.
+#[no_mangle]
+pub extern "C" fn barkruffle_link_rows(
+    code: &[u8],
+    symbols: &[Symbol],
+    functions: &[u8],
+    relocations: &[u8],
+    instructions: &[u8],
+    func_info: &[u8],
+    line_info: &[u8],
+    root: u32,
+    image: &mut [u8],
+    image_func_info: &mut [u8],
+    image_line_info: &mut [u8],
+    places: &mut [u8],
+    scratch: &mut [u8],
+) -> u32
+    ensures { λ r. ⌜ RowsTold (now (places .entry)) (now (places .exit)) (buffers (now (image .exit)) (now («image_func_info» .exit)) (now («image_line_info» .exit))) r (linkRowsEntry (length (now (symbols .entry))) (length (now (scratch .entry))) (linkOffer (now (code .entry)) (bytesOf (now (symbols .entry))) (now (functions .entry)) (now (relocations .entry)) (now (instructions .entry)) (now («func_info» .entry)) (now («line_info» .entry))) root (lentBy (buffers (now (image .entry)) (now («image_func_info» .entry)) (now («image_line_info» .entry))))) (now (scratch .exit)) (laidIn (now (symbols .entry)) (now (scratch .entry))) ⌝ }
+{
+    lay_rows(symbols, scratch);
+    link_laid(
+        code,
+        symbols.len(),
+        functions,
+        relocations,
+        instructions,
+        func_info,
+        line_info,
+        root,
+        image,
+        image_func_info,
+        image_line_info,
+        places,
+        scratch,
+    )
 }
 
 // Reads struct bpf_func_info records into rows of table 7.

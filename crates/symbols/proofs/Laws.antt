@@ -107,14 +107,20 @@ bytes-snoc [] s = append-nil (rowBytes s)
 bytes-snoc (x ∷ xs) s = ap (λ (bs : List ℕ). rowBytes x ++ bs) (bytes-snoc xs s) ∙ sym (append-assoc (rowBytes x) (bytesOf xs) (rowBytes s))
 
 -- as many rows are laid as there are or fewer, and they fit
+needed-few : (count : ℕ) → rowsNeeded count ≤ count
+needed-few count = go (ltb (suc (mostRows Symbols)) count) refl
+  where
+    go : (b : Bool) → ltb (suc (mostRows Symbols)) count ≡ b → cond b (suc (mostRows Symbols)) count ≤ count
+    go true e = omega (arith, ltb-true (suc (mostRows Symbols)) count e)
+    go false e = omega arith
+
 laid-few : (count room : ℕ) → rowsLaid count room ≤ count
 unfolding rowsLaid
-laid-few count room = go (ltb room (bytesNeeded count)) (ltb (suc (mostRows Symbols)) count) refl
+laid-few count room = go (ltb room (bytesNeeded count))
   where
-    go : (a b : Bool) → ltb (suc (mostRows Symbols)) count ≡ b → cond a 0 (cond b (suc (mostRows Symbols)) count) ≤ count
-    go true b e = omega arith
-    go false true e = omega (arith, ltb-true (suc (mostRows Symbols)) count e)
-    go false false e = omega arith
+    go : (a : Bool) → cond a 0 (rowsNeeded count) ≤ count
+    go true = omega arith
+    go false = needed-few count
 
 laid-fits : (count room : ℕ) → rowSize Symbols * rowsLaid count room ≤ room
 unfolding rowsLaid
@@ -159,3 +165,20 @@ module _ (ys : List Symbol) (zs : List ℕ) where
   lay-end i t so-far h =
       let e : i ≡ rowsLaid (length ys) (length zs) = omega (arith, so-far .inside) in
       so-far .same ∙ ap (λ (k : ℕ). splice zs 0 (bytesOf (take k ys))) e
+
+  lay-long : 0 + length (bytesOf (take (rowsLaid (length ys) (length zs)) ys)) ≤ length zs
+  lay-long =
+      let k = rowsLaid (length ys) (length zs) in
+      omega (arith, bytes-length (take k ys), length-take-le k ys (laid-few (length ys) (length zs)), laid-fits (length ys) (length zs))
+
+  pub laid-length : length (laidIn ys zs) ≡ length zs
+  unfolding laidIn
+  laid-length = splice-length zs 0 (bytesOf (take (rowsLaid (length ys) (length zs)) ys)) lay-long
+
+  -- where they fit, the rows needed stand at the front
+  pub laid-front : ltb (length zs) (bytesNeeded (length ys)) ≡ false → take (bytesNeeded (length ys)) (laidIn ys zs) ≡ bytesOf (take (rowsNeeded (length ys)) ys)
+  unfolding laidIn rowsLaid
+  laid-front e =
+      ap (λ (t : Bool). take (bytesNeeded (length ys)) (splice zs 0 (bytesOf (take (cond t 0 (rowsNeeded (length ys))) ys)))) e
+      ∙ splice-front zs 0 (bytesOf (take (rowsNeeded (length ys)) ys)) (bytesNeeded (length ys))
+      (omega (arith, bytes-length (take (rowsNeeded (length ys)) ys), length-take-le (rowsNeeded (length ys)) ys (needed-few (length ys)))) (omega arith)

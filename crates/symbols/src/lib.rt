@@ -21,7 +21,7 @@ pub struct Symbol {
     pub padding: [u8; 7],
 }
 
-const SYMBOL_SIZE: usize = 24;
+pub const SYMBOL_SIZE: usize = 24;
 
 const PADDING: usize = 7;
 // One row over table 2's limit: more are refused whatever they hold.
