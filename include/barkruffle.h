@@ -4,8 +4,8 @@
  * project's definitions give. None asks anything of the bytes: broken tables are refused with a number.
  *
  * Buffers. A buffer is a pointer and a length in bytes. A buffer of length 0 may have any pointer, NULL too.
- * No buffer needs alignment. A buffer that is lent to be written (not const) must overlap no other buffer of
- * the same call. Buffers that are only read may overlap each other. Nothing is kept after a call returns, and
+ * No buffer of bytes needs alignment; rows of struct barkruffle_symbol stand where C puts them, at a multiple of 8.
+ * A buffer that is lent to be written (not const) must overlap no other buffer of the same call. Buffers that are only read may overlap each other. Nothing is kept after a call returns, and
  * no function has state of its own: calls from several threads at once are fine on buffers that are not shared.
  *
  * Byte order. All tables, records and places are little-endian. The archive is for x86-64.
@@ -15,7 +15,8 @@
  * It is written on every answer. What the numbers say stands with each answer below.
  *
  * Stack. A link recurses once for each function that it appends, 64 at most. The deepest, a chain of 64 functions
- * that ends in a call of the root, was measured at 103,624 bytes; give a thread that links 128 KiB beside its own.
+ * that ends in a call of the root, was measured at 103,896 bytes, with rows at 103,960; give a thread that links 128 KiB
+ * beside its own.
  * No other function here recurses. tests/stack.c measures it, and fails past 128 KiB.
  *
  * The tables, by number, with the bytes of a row and the most rows:
@@ -77,7 +78,9 @@ enum barkruffle_number {
     /* The root is no row of table 3: 0, 0. */
     BARKRUFFLE_NO_ROOT = 13,
     /* Broken info data, or no record k: 0, 0. */
-    BARKRUFFLE_BROKEN_INFO = 14
+    BARKRUFFLE_BROKEN_INFO = 14,
+    /* barkruffle_link_rows alone: the scratch is too short for the rows: 0, 0. It is told before every other number. */
+    BARKRUFFLE_SHORT_SCRATCH = 32
 };
 
 /* The length of a place buffer that holds all three numbers. */
@@ -122,6 +125,40 @@ uint32_t barkruffle_link(
     uint8_t *image_func_info, size_t image_func_info_len,
     uint8_t *image_line_info, size_t image_line_info_len,
     uint8_t *places, size_t places_len);
+
+/* A row of table 2: C's own layout of it is the row's 24 bytes. The padding is to be zero, as in the table's bytes. */
+struct barkruffle_symbol {
+    uint32_t index;
+    uint32_t section;
+    uint64_t address;
+    uint8_t kind;
+    uint8_t padding[7];
+};
+
+/* The length of a scratch that always suffices: one row more than table 2 may have. */
+#define BARKRUFFLE_SCRATCH (1025 * 24)
+
+/* barkruffle_link with table 2 lent as rows: `symbols_count` is a count of rows, not of bytes. The rows are laid into
+ * `scratch` and linked from there, so answers, places and outputs are those of barkruffle_link over the rows' bytes.
+ *
+ * Answers: those of barkruffle_link, and 32 before all of them if `scratch_len` is below 24 * symbols_count, or below
+ * BARKRUFFLE_SCRATCH where there are more than 1025 rows. On 32 all three outputs are zero from end to end, and
+ * `scratch` is as it was. On any other answer `scratch` starts with the rows' bytes, 1025 rows at most, and is as it was
+ * after them. It is lent to be written, and may not overlap the rows or any other buffer. */
+uint32_t barkruffle_link_rows(
+    const uint8_t *code, size_t code_len,
+    const struct barkruffle_symbol *symbols, size_t symbols_count,
+    const uint8_t *functions, size_t functions_len,
+    const uint8_t *relocations, size_t relocations_len,
+    const uint8_t *instructions, size_t instructions_len,
+    const uint8_t *func_info, size_t func_info_len,
+    const uint8_t *line_info, size_t line_info_len,
+    uint32_t root,
+    uint8_t *image, size_t image_len,
+    uint8_t *image_func_info, size_t image_func_info_len,
+    uint8_t *image_line_info, size_t image_line_info_len,
+    uint8_t *places, size_t places_len,
+    uint8_t *scratch, size_t scratch_len);
 
 /* Read `count` records of `size` bytes each from `bytes` into rows of table 7 (struct bpf_func_info) or of table 8
  * (struct bpf_line_info): the byte offset that a record starts with becomes a slot, and what a record has past a

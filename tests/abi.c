@@ -49,6 +49,58 @@ static void same_places(const char *what, const uint8_t *p, size_t room, uint32_
 static uint8_t image[BARKRUFFLE_IMAGE + 8], funcs[BARKRUFFLE_IMAGE_FUNC_INFO + 8], lines[BARKRUFFLE_IMAGE_LINE_INFO + 16];
 static uint8_t places[32];
 
+/* What barkruffle_link left in the buffers above is held to what barkruffle_link_rows gives over the same rows, with a
+ * scratch of `scratch_n` bytes. Table 2 is copied as it is: C's layout of a row is its bytes. */
+static struct barkruffle_symbol rows[(1 << 17) / 24];
+static uint8_t row_image[sizeof image], row_funcs[sizeof funcs], row_lines[sizeof lines], row_places[32];
+static uint8_t scratch[1 << 17];
+
+static uint32_t link_rows(struct object *o, size_t count, uint32_t root, size_t image_n, size_t funcs_n, size_t lines_n,
+                          size_t room, size_t scratch_n)
+{
+    memset(row_image, 0xaa, sizeof row_image);
+    memset(row_funcs, 0xaa, sizeof row_funcs);
+    memset(row_lines, 0xaa, sizeof row_lines);
+    memset(row_places, 0xee, sizeof row_places);
+    memset(scratch, 0xbb, sizeof scratch);
+    memcpy(rows, o->symbols.bytes, count * sizeof *rows);
+    uint32_t r = barkruffle_link_rows(LENT(o->code), rows, count, LENT(o->functions), LENT(o->relocations),
+                                      LENT(o->instructions), LENT(o->func_info), LENT(o->line_info), root, row_image,
+                                      image_n, row_funcs, funcs_n, row_lines, lines_n, row_places, room, scratch, scratch_n);
+    same_bytes("the rows", (const uint8_t *)rows, o->symbols.bytes, count * sizeof *rows);
+    return r;
+}
+
+static void same_with_rows(struct object *o, uint32_t number, uint32_t root, size_t image_n, size_t funcs_n, size_t lines_n,
+                           size_t room)
+{
+    if (o->symbols.len % sizeof *rows)
+        return; /* a slice of rows has no partial row */
+    size_t count = o->symbols.len / sizeof *rows, laid = count < 1025 ? count : 1025;
+    same("with rows", link_rows(o, count, root, image_n, funcs_n, lines_n, room, 24 * laid), number);
+    same_bytes("with rows: image", row_image, image, sizeof image);
+    same_bytes("with rows: function records", row_funcs, funcs, sizeof funcs);
+    same_bytes("with rows: line records", row_lines, lines, sizeof lines);
+    same_bytes("with rows: places", row_places, places, sizeof places);
+    same_bytes("scratch", scratch, o->symbols.bytes, 24 * laid);
+    all("past the scratch", scratch + 24 * laid, 0xbb, sizeof scratch - 24 * laid);
+    same("with more scratch", link_rows(o, count, root, image_n, funcs_n, lines_n, room, 24 * laid + 100), number);
+    same_bytes("with more scratch: image", row_image, image, sizeof image);
+    all("after the rows", scratch + 24 * laid, 0xbb, sizeof scratch - 24 * laid);
+    size_t too_short[] = {0, 1, 24 * laid - 24, 24 * laid - 1};
+    for (size_t i = 0; laid && i < sizeof too_short / sizeof *too_short; i++) {
+        if (too_short[i] >= 24 * laid)
+            continue;
+        same("short scratch", link_rows(o, count, root, image_n, funcs_n, lines_n, room, too_short[i]), BARKRUFFLE_SHORT_SCRATCH);
+        same_places("short scratch", row_places, room, 0, 0, 0);
+        all("short scratch: image", row_image, 0, image_n);
+        all("short scratch: function records", row_funcs, 0, funcs_n);
+        all("short scratch: line records", row_lines, 0, lines_n);
+        all("short scratch: past the image", row_image + image_n, 0xaa, sizeof row_image - image_n);
+        all("short scratch: scratch", scratch, 0xbb, sizeof scratch);
+    }
+}
+
 static uint32_t link_in(struct object *o, uint32_t root, size_t image_n, size_t funcs_n, size_t lines_n, size_t room)
 {
     memset(image, 0xaa, sizeof image);
@@ -66,6 +118,7 @@ static uint32_t link_in(struct object *o, uint32_t root, size_t image_n, size_t 
         all("refused function records", funcs, 0, funcs_n);
         all("refused line records", lines, 0, lines_n);
     }
+    same_with_rows(o, r, root, image_n, funcs_n, lines_n, room);
     return r;
 }
 
@@ -318,9 +371,80 @@ static void map_step(void)
     free(o);
 }
 
+/* Table 2 lent as rows: its layout, and each of its refusals, told as the bytes' (link_in compares). */
+static void symbol_rows(void)
+{
+    same("a row's bytes", (long)sizeof(struct barkruffle_symbol), 24);
+    same("index", (long)offsetof(struct barkruffle_symbol, index), 0);
+    same("section", (long)offsetof(struct barkruffle_symbol, section), 4);
+    same("address", (long)offsetof(struct barkruffle_symbol, address), 8);
+    same("kind", (long)offsetof(struct barkruffle_symbol, kind), 16);
+    same("padding", (long)offsetof(struct barkruffle_symbol, padding), 17);
+    struct object *o = new_object();
+    code_section(&o->code, 1);
+    symbol(&o->symbols, 1, 1, 16, 1);
+    symbol(&o->symbols, 2, NONE, 0, 0);
+    symbol(&o->symbols, 4, 65535, 0xffffffffffff, 2);
+    function(&o->functions, 1, 2, 0, 0, 0, 0);
+    function(&o->functions, 1, 1, 16, 16, 0, 0);
+    relocation(&o->relocations, 1, 1, 0, 32);
+    call(&o->instructions, 7);
+    leave(&o->instructions);
+    leave(&o->instructions);
+    for (size_t room = 0; room <= 16; room++) {
+        same("rows", link_in(o, 0, 64, 0, 0, room), BARKRUFFLE_DONE);
+        same_places("rows", places, room, 3, 0, 0);
+        same("rows: the call", number_at(image, 1), 1);
+        same("rows: no root", link_in(o, 2, 64, 0, 0, room), BARKRUFFLE_NO_ROOT);
+    }
+    o->relocations.bytes[4] = 3;
+    same("rows: unknown symbol", link_in(o, 0, 64, 0, 0, 12), BARKRUFFLE_UNKNOWN_SYMBOL);
+    o->relocations.bytes[4] = 1;
+    /* each way to break row 1 or 2: byte, value */
+    static const uint8_t broken[][2] = {{24, 1}, {24, 5}, {24, 0}, {30, 1}, {31, 1}, {38, 1}, {39, 1}, {40, 3}, {40, 255},
+                                        {41, 1}, {42, 1}, {43, 1}, {44, 1}, {45, 1}, {46, 1}, {47, 128},
+                                        {50, 0}, {54, 1}, {62, 1}, {64, 3}, {71, 1}};
+    for (size_t i = 0; i < sizeof broken / sizeof *broken; i++) {
+        uint8_t kept = o->symbols.bytes[broken[i][0]];
+        o->symbols.bytes[broken[i][0]] = broken[i][1];
+        uint32_t r = link_in(o, 0, 64, 0, 0, 12);
+        int whole = kept == broken[i][1];
+        same("broken row", r, whole ? BARKRUFFLE_DONE : BARKRUFFLE_BROKEN_ROW);
+        if (!whole)
+            same_places("broken row", places, 12, 2, broken[i][0] < 48 && broken[i][1] != 5 ? 1 : 2, 0);
+        o->symbols.bytes[broken[i][0]] = kept;
+    }
+    memset(o->symbols.bytes + 48, 0xff, 4);
+    same("index that means none", link_in(o, 0, 64, 0, 0, 12), BARKRUFFLE_BROKEN_ROW);
+    same_places("index that means none", places, 12, 2, 2, 0);
+    /* at the limit, past it, and far past it */
+    o->symbols.len = 24;
+    for (uint32_t k = 2; k <= 1024; k++)
+        symbol(&o->symbols, k, NONE, 0, 0);
+    same("1024 rows", link_in(o, 0, 64, 0, 0, 12), BARKRUFFLE_DONE);
+    symbol(&o->symbols, 1025, NONE, 0, 0);
+    same("1025 rows", link_in(o, 0, 64, 0, 0, 12), BARKRUFFLE_TOO_MANY_ROWS);
+    same_places("1025 rows", places, 12, 2, 0, 0);
+    for (uint32_t k = 1026; k <= 5000; k++)
+        symbol(&o->symbols, k, NONE, 0, 0);
+    same("5000 rows", link_in(o, 0, 64, 0, 0, 12), BARKRUFFLE_TOO_MANY_ROWS);
+    same_places("5000 rows", places, 12, 2, 0, 0);
+    same("the scratch that suffices", BARKRUFFLE_SCRATCH, 1025 * 24);
+    /* table 1 comes first, a short scratch before it */
+    o->code.len = 65 * 4;
+    same("table 1 too", link_in(o, 0, 64, 0, 0, 12), BARKRUFFLE_TOO_MANY_ROWS);
+    same_places("table 1 too", places, 12, 1, 0, 0);
+    same("table 1 too, scratch enough", link_rows(o, 5000, 0, 64, 0, 0, 12, BARKRUFFLE_SCRATCH), BARKRUFFLE_TOO_MANY_ROWS);
+    same_places("table 1 too, scratch enough", row_places, 12, 1, 0, 0);
+    same("no rows, nothing lent", barkruffle_link_rows(NULL, 0, NULL, 0, NULL, 0, NULL, 0, NULL, 0, NULL, 0, NULL, 0, 0,
+                                                       NULL, 0, NULL, 0, NULL, 0, NULL, 0, NULL, 0), BARKRUFFLE_NO_ROOT);
+    free(o);
+}
+
 int main(void)
 {
     own_call();
+    symbol_rows();
     depth_first();
     nothing_lent();
     records(barkruffle_func_info, barkruffle_func_info_record, barkruffle_func_info_record_number, 8, 8);

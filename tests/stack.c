@@ -10,6 +10,8 @@
 
 static uint8_t image[BARKRUFFLE_IMAGE], funcs[BARKRUFFLE_IMAGE_FUNC_INFO], lines[BARKRUFFLE_IMAGE_LINE_INFO];
 static uint8_t places[BARKRUFFLE_PLACES];
+static struct barkruffle_symbol rows[1024];
+static uint8_t scratch[BARKRUFFLE_SCRATCH];
 static struct object *o;
 static uint32_t result;
 
@@ -20,6 +22,14 @@ static void *link_chain(void *unused)
     result = barkruffle_link(LENT(o->code), LENT(o->symbols), LENT(o->functions), LENT(o->relocations),
                              LENT(o->instructions), LENT(o->func_info), LENT(o->line_info), 0, image, sizeof image,
                              funcs, sizeof funcs, lines, sizeof lines, places, sizeof places);
+    return unused;
+}
+
+static void *link_chain_rows(void *unused)
+{
+    result = barkruffle_link_rows(LENT(o->code), rows, 1024, LENT(o->functions), LENT(o->relocations),
+                                  LENT(o->instructions), LENT(o->func_info), LENT(o->line_info), 0, image, sizeof image,
+                                  funcs, sizeof funcs, lines, sizeof lines, places, sizeof places, scratch, sizeof scratch);
     return unused;
 }
 
@@ -41,6 +51,19 @@ static size_t depth_of(void *(*run)(void *), uint8_t *stack)
     return STACK - k;
 }
 
+static int fails(const char *what, void *(*run)(void *), uint8_t *stack)
+{
+    size_t before = depth_of(idle, stack), with = depth_of(run, stack);
+    if (result != BARKRUFFLE_DONE || number_at(places, 0) != 130) {
+        printf("stack: %s gave %u, %u slots\n", what, result, number_at(places, 0));
+        return 1;
+    }
+    printf("stack: %s: %zu bytes over a thread that does nothing\n", what, with - before);
+    if (with - before > SAID)
+        printf("stack: the header says at most %u\n", (unsigned)SAID);
+    return with - before > SAID;
+}
+
 int main(void)
 {
     void *stack;
@@ -57,17 +80,12 @@ int main(void)
         call(&o->instructions, k < 63 ? 1 : -127);
         leave(&o->instructions);
     }
-    size_t before = depth_of(idle, stack), with = depth_of(link_chain, stack);
-    if (result != BARKRUFFLE_DONE || number_at(places, 0) != 130) {
-        printf("stack: link gave %u, %u slots\n", result, number_at(places, 0));
-        return 1;
+    for (uint32_t k = 0; k < 1024; k++) {
+        rows[k].index = k;
+        rows[k].section = NONE;
     }
-    printf("stack: %zu bytes over a thread that does nothing\n", with - before);
+    int bad = fails("link", link_chain, stack) | fails("link with rows", link_chain_rows, stack);
     free(o);
     free(stack);
-    if (with - before > SAID) {
-        printf("stack: the header says at most %u\n", (unsigned)SAID);
-        return 1;
-    }
-    return 0;
+    return bad;
 }
