@@ -419,6 +419,34 @@ fn maps_with_symbols(rng: &mut Rng, o: &mut Object) -> Option<()> {
     Some(())
 }
 
+/// Immediate 2,147,483,647 in the root's first slot, where functions stand both at the place meant and at the one to which the crate's
+/// sum wraps: a call without a relocation, or a wide load by a Section symbol of size 32.
+fn wraps_to_another(rng: &mut Rng, o: &mut Object) -> Option<()> {
+    let (root, index) = (o.root, unused(o));
+    let f = &o.functions[root];
+    if (0..f.slots.len()).any(|k| is_relocated(o, f, k)) || !o.code.contains(&f.section) {
+        return None;
+    }
+    let (section, far) = (f.section, f.offset + (1 << 35));
+    let f = &mut o.functions[root];
+    f.slots.iter_mut().filter(|s| crate::model::is_call(s)).for_each(|s| *s = EXIT);
+    if rng.chance(50) || f.slots.len() < 2 {
+        f.offset = far;
+        f.slots[0] = call(i32::MAX);
+    } else {
+        f.slots[0] = insn(0x18, 1, 0, i32::MAX);
+        f.slots[1] = insn(0, 0, 0, 0);
+        o.symbols.push(Symbol { index, section, address: far, kind: SECTION });
+        set_relocation(o, root, 0, (index, 32));
+    }
+    for (address, slots) in [(far + (1 << 34), 1), (far - (1 << 34), 2)] {
+        if rng.chance(80) {
+            o.functions.push(Fun { section, address, offset: address, slots: vec![EXIT; slots], ..Fun::default() });
+        }
+    }
+    Some(())
+}
+
 /// 3, 4, 5, 10, each once.
 const REFUSALS: [Spoiler; 7] = [
     unknown_symbol,
@@ -545,7 +573,8 @@ const ADDED: [Spoiler; 10] = [
 ];
 
 /// A clause of the domain each.
-const CLAUSES: [Spoiler; 9] = [
+const CLAUSES: [Spoiler; 10] = [
+    wraps_to_another,
     // two refusable relocations
     |rng, o| {
         let (f, k) = find(rng, o, |o, f, k| is_relocated(o, f, k) && f.slots.len() > 1)?;

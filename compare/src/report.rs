@@ -171,6 +171,8 @@ impl Report {
             need(o.alone > 0, format!("outside for this cause alone: {name}"));
             // the crate has an error of its own for an unknown program; every other cause makes a difference
             need(o.alone > o.equal || name.starts_with("13"), format!("a difference by this cause alone: {name}"));
+            // a wrapped sum that leads to another function: the crate binds the call to it
+            need(o.ok > 0 || !name.starts_with("top immediate"), format!("a call bound to another function: {name}"));
         }
         need(self.touched > 0, "a map step of the crate that fails with slots changed".to_string());
         for (name, counts) in readers::CAUSES.iter().zip(self.readers) {

@@ -38,7 +38,7 @@ pub fn smallest_of(
 
 /// The answer does not hang on the order of the crate's hash maps: it is the same each time.
 pub fn is_steady(case: &Case, both: &Both) -> bool {
-    (0..12).all(|_| both::run(case, None).ran == both.ran)
+    (0..40).all(|_| both::run(case, None).ran == both.ran)
 }
 
 pub fn causes(both: &Both) -> String {
