@@ -1,0 +1,69 @@
+/* What the files of the fuzz harness share: an input cut into buffers, what document 01 answers to it, buffers lent
+ * between guards, and the runs. */
+#ifndef BARKRUFFLE_FUZZ_H
+#define BARKRUFFLE_FUZZ_H
+
+#include <stddef.h>
+#include <stdint.h>
+#include "barkruffle.h"
+
+/* More bytes than the limit of any table or output. */
+#define MOST 73728
+#define NONE 0xffffffffu
+
+struct bytes {
+    uint8_t at[MOST];
+    size_t len;
+};
+
+/* What one input is cut into; every entry is called on it. */
+struct input {
+    struct bytes table[9]; /* 1 to 8 */
+    uint32_t root;
+    size_t out_len[3];
+    uint32_t size, count, k; /* the readers' */
+    struct bytes data;
+    size_t rows_len;
+    size_t places_len;
+    int maps_first; /* link what the map step made of table 6 */
+};
+
+struct answer {
+    uint32_t number;
+    uint32_t places[3];
+};
+
+/* cut.c: the first byte chooses raw bytes, raw bytes repaired, or a generator. */
+enum { CUT_RAW, CUT_REPAIRED, CUT_GENERATED, CUTS };
+int cut(struct input *in, const uint8_t *data, size_t len);
+
+/* model.c: document 01, literally. Outputs are written whole. */
+extern const size_t row_size[9], most_rows[9];
+uint32_t u32_at(const uint8_t *p);
+uint64_t u64_at(const uint8_t *p);
+struct answer model_maps(const struct bytes *table, uint8_t *instructions);
+struct answer model_link(const struct bytes *table, uint32_t root, const size_t *out_len, uint8_t *const *out);
+struct answer model_read(size_t row, uint32_t size, uint32_t count, const struct bytes *data, uint8_t *out, size_t out_len);
+struct answer model_record(size_t row, uint32_t size, uint32_t count, const struct bytes *data, uint32_t k);
+
+/* lend.c: each buffer of a call lies flush to an unmapped page, at its end or at its start, with guard bytes on the other
+ * side. What is only read is lent through a mapping that cannot be written. */
+enum side { AT_END, AT_START };
+void lend_from(enum side side, uint8_t guard, int null_when_empty);
+const uint8_t *lend(const uint8_t *bytes, size_t len);
+uint8_t *lend_filled(uint8_t fill, size_t len);
+uint8_t *lend_to_write(const uint8_t *bytes, size_t len);
+const char *take_back(void); /* what was found wrong, or NULL */
+const char *trapped_at(const void *address);
+
+/* entries.c */
+int LLVMFuzzerTestOneInput(const uint8_t *data, size_t len);
+int LLVMFuzzerInitialize(int *argc, char ***argv);
+const char *entry_tried(void);
+int report(void); /* prints how often each entry gave each number; 0 if each number of the header was reached */
+
+/* drive.c: pseudo-random inputs, and traps told in words. */
+void tell_traps(void);
+void drive(unsigned runs, uint64_t seed);
+
+#endif

@@ -1,0 +1,329 @@
+/* Shows that the harness bites: each entry stands behind a wrapper (the linker's --wrap) that makes one error at a time,
+ * and the harness has to notice it, for the right reason. With no error it has to notice nothing. */
+#define _GNU_SOURCE
+#include <stdio.h>
+#include <stdlib.h>
+#include <string.h>
+#include <sys/resource.h>
+#include <sys/wait.h>
+#include <unistd.h>
+#include "fuzz.h"
+
+enum wrong {
+    NOTHING, READS_PAST, READS_BEFORE, WRITES_PAST, WRITES_BEFORE, STORES_IN_CONST, WRITES_PAST_PLACES, LEAVES_A_BYTE,
+    ONE_SLOT_MORE, A_ROW_AFTER, GOES_BY_BEFORE, KEEPS_STATE, EXACT_REFUSED, SHORT_ACCEPTED, TWO_FOR_ONE, THIRTEEN_FIRST,
+    OTHER_TABLE, FIFTEEN, ONE_OFF, LARGER_OTHER, LARGER_REFUSED, MAPS_REFUSED_CHANGES, MAPS_ONE_MORE, MAPS_OPCODE,
+    MAPS_UNSAID, MAPS_DESCRIPTOR, MAPS_PART_OF_PLACE, FUNC_READS_PAST, FUNC_NOT_DIVIDED, FUNC_LEAVES_A_BYTE, LINE_ROW_AFTER,
+    LINE_ELEVEN_FIRST, FUNC_PART_LONGER, LINE_PART_ON_REFUSAL, FUNC_NEXT_PART, FUNC_NUMBER_AT_COUNT, LINE_NUMBER_READS_BEFORE,
+    WRONGS
+};
+
+/* The error, and what the harness has to say. */
+static const struct {
+    const char *error, *told;
+} wrongs[WRONGS] = {
+    [READS_PAST] = {"link reads a byte past the relocations", "barkruffle_link: trapped: an access past buffer 3"},
+    [READS_BEFORE] = {"link reads a byte before the symbols", "barkruffle_link: trapped: an access before buffer 1"},
+    [WRITES_PAST] = {"link writes a byte past the image", "barkruffle_link: guard bytes written after buffer 7"},
+    [WRITES_BEFORE] = {"link writes a byte before the line records", "barkruffle_link: guard bytes written before buffer 9"},
+    [STORES_IN_CONST] = {"link stores into table 1 what stands there", "barkruffle_link: trapped: a write to the read-only buffer 0"},
+    [WRITES_PAST_PLACES] = {"link writes a byte past the places", "barkruffle_link: trapped: an access past buffer 10"},
+    [LEAVES_A_BYTE] = {"a refused link leaves the last line record's last byte", "a refused link leaves a byte"},
+    [ONE_SLOT_MORE] = {"link tells one slot too many", "barkruffle_link: an image"},
+    [A_ROW_AFTER] = {"link writes a slot after the image", "not zero after the image"},
+    [GOES_BY_BEFORE] = {"link goes by what the image held before", "barkruffle_link: called twice, other bytes"},
+    [KEEPS_STATE] = {"link tells other places at every other call", "barkruffle_link: called twice, other places"},
+    [EXACT_REFUSED] = {"link wants a byte more than it needs", "an image is refused outputs that it fills exactly"},
+    [SHORT_ACCEPTED] = {"link accepts a function record output that is a byte short", "an image is accepted in an output that is too short"},
+    [TWO_FOR_ONE] = {"link looks for broken rows before it counts rows", "1 is not told exactly where a table has too many rows"},
+    [THIRTEEN_FIRST] = {"link looks at the root first", "barkruffle_link: another number than document 01's"},
+    [OTHER_TABLE] = {"link tells a later table with too many rows", "1 does not name the first table with too many rows"},
+    [FIFTEEN] = {"link answers 15", "barkruffle_link: a number that the header does not give it"},
+    [ONE_OFF] = {"link sets the last slot's immediate one off", "barkruffle_link: other bytes than document 01's"},
+    [LARGER_OTHER] = {"link makes another image where there is more room", "larger outputs get another image"},
+    [LARGER_REFUSED] = {"link answers 11 where there is more room", "larger outputs give another number"},
+    [MAPS_REFUSED_CHANGES] = {"a refused map step changes the last slot", "a refused map step changes a byte"},
+    [MAPS_ONE_MORE] = {"the map step tells one relocation too many", "barkruffle_relocate_maps: other places than document 01's"},
+    [MAPS_OPCODE] = {"the map step changes an opcode", "a map step changes more than it may"},
+    [MAPS_UNSAID] = {"the map step changes a slot and tells none", "a map step changes more slots than it says"},
+    [MAPS_DESCRIPTOR] = {"the map step stores another descriptor", "barkruffle_relocate_maps: other bytes than document 01's"},
+    [MAPS_PART_OF_PLACE] = {"the map step writes a part of a place", "not zero after the places that fit whole"},
+    [FUNC_READS_PAST] = {"the function reader reads a byte past its data", "barkruffle_func_info: trapped: an access past buffer 0"},
+    [FUNC_NOT_DIVIDED] = {"the function reader keeps byte offsets", "barkruffle_func_info: other bytes than document 01's"},
+    [FUNC_LEAVES_A_BYTE] = {"a refused function reader leaves a byte", "barkruffle_func_info: a refused reader leaves a byte"},
+    [LINE_ROW_AFTER] = {"the line reader writes a byte after its rows", "barkruffle_line_info: not zero after the rows"},
+    [LINE_ELEVEN_FIRST] = {"the line reader tells 11 before 14", "barkruffle_line_info: another number than document 01's"},
+    [FUNC_PART_LONGER] = {"a function record's part is a byte longer", "barkruffle_func_info_record: a"},
+    [LINE_PART_ON_REFUSAL] = {"a refused line record gives a part", "barkruffle_line_info_record: a part that is not"},
+    [FUNC_NEXT_PART] = {"the part of function record 0 is that of record 1", "barkruffle_func_info_record: another part than document 01's"},
+    [FUNC_NUMBER_AT_COUNT] = {"the record at the count is told as done", "barkruffle_func_info_record_number: the number of a record is not its part's"},
+    [LINE_NUMBER_READS_BEFORE] = {"a record's number reads before the data", "barkruffle_line_info_record_number: trapped: an access before buffer 0"},
+};
+
+static enum wrong wrong;
+static volatile uint8_t sink;
+
+static int starts_a_page(const uint8_t *p) { return (uintptr_t)p % 4096 == 0; }
+
+static void add_to_place(uint8_t *places, size_t len, uint8_t more)
+{
+    if (len >= 4)
+        places[0] = (uint8_t)(places[0] + more);
+}
+
+/* ---- the map step */
+
+#define MAPS_PARAMETERS                                                                                                    \
+    const uint8_t *code, size_t code_len, const uint8_t *symbols, size_t symbols_len, const uint8_t *functions,            \
+        size_t functions_len, const uint8_t *relocations, size_t relocations_len, const uint8_t *maps, size_t maps_len,    \
+        uint8_t *instructions, size_t instructions_len, uint8_t *places, size_t places_len
+
+uint32_t __real_barkruffle_relocate_maps(MAPS_PARAMETERS);
+uint32_t __wrap_barkruffle_relocate_maps(MAPS_PARAMETERS);
+
+uint32_t __wrap_barkruffle_relocate_maps(MAPS_PARAMETERS)
+{
+    uint8_t before = instructions_len > 4 ? instructions[4] : 0;
+    uint32_t n = __real_barkruffle_relocate_maps(code, code_len, symbols, symbols_len, functions, functions_len, relocations,
+                                                 relocations_len, maps, maps_len, instructions, instructions_len, places,
+                                                 places_len);
+    int none = places_len >= 4 && places[0] == 0;
+    if (wrong == MAPS_REFUSED_CHANGES && n && instructions_len)
+        instructions[instructions_len - 1] ^= 1;
+    if (wrong == MAPS_ONE_MORE && n == 0)
+        add_to_place(places, places_len, 1);
+    if (wrong == MAPS_OPCODE && n == 0 && instructions_len)
+        instructions[0] ^= 1;
+    if (wrong == MAPS_UNSAID && n == 0 && instructions_len && none)
+        instructions[4] ^= 1;
+    if (wrong == MAPS_DESCRIPTOR && n == 0 && instructions_len && instructions[4] != before)
+        instructions[4] ^= 1;
+    if (wrong == MAPS_PART_OF_PLACE && places_len % 4 && places_len < 12)
+        places[places_len - 1] = 1;
+    return n;
+}
+
+/* ---- the link */
+
+#define LINK_PARAMETERS                                                                                                    \
+    const uint8_t *code, size_t code_len, const uint8_t *symbols, size_t symbols_len, const uint8_t *functions,            \
+        size_t functions_len, const uint8_t *relocations, size_t relocations_len, const uint8_t *instructions,             \
+        size_t instructions_len, const uint8_t *func_info, size_t func_info_len, const uint8_t *line_info,                 \
+        size_t line_info_len, uint32_t root, uint8_t *image, size_t image_len, uint8_t *image_func_info,                   \
+        size_t image_func_info_len, uint8_t *image_line_info, size_t image_line_info_len, uint8_t *places, size_t places_len
+
+uint32_t __real_barkruffle_link(LINK_PARAMETERS);
+uint32_t __wrap_barkruffle_link(LINK_PARAMETERS);
+
+/* What a link reads or writes where it may not. */
+static void stray(const uint8_t *code, size_t code_len, const uint8_t *symbols, size_t symbols_len, const uint8_t *relocations,
+                  size_t relocations_len, uint8_t *image, size_t image_len, uint8_t *lines, uint8_t *places, size_t places_len)
+{
+    if (wrong == READS_PAST && relocations_len)
+        sink = relocations[relocations_len];
+    if (wrong == READS_BEFORE && symbols_len)
+        sink = symbols[-1];
+    if (wrong == WRITES_PAST && image_len && starts_a_page(image))
+        image[image_len] = 0;
+    if (wrong == WRITES_BEFORE && !starts_a_page(lines))
+        lines[-1] = 0;
+    if (wrong == STORES_IN_CONST && code_len)
+        *(volatile uint8_t *)(uintptr_t)code = code[0];
+    if (wrong == WRITES_PAST_PLACES && places_len)
+        places[places_len] = 0;
+}
+
+struct outputs {
+    uint8_t *at[3];
+    size_t len[3];
+};
+
+static uint32_t refused(const struct outputs *o, uint32_t number)
+{
+    for (int i = 0; i < 3; i++)
+        if (o->len[i])
+            memset(o->at[i], 0, o->len[i]);
+    return number;
+}
+
+/* What a link tells. */
+static uint32_t mistold(uint32_t n, const struct outputs *o, uint32_t root, size_t rows, uint8_t *places, size_t places_len)
+{
+    static unsigned calls;
+    size_t used = places_len >= 4 ? 8 * (size_t)u32_at(places) : 0;
+    if (wrong == ONE_SLOT_MORE && n == 0)
+        add_to_place(places, places_len, 1);
+    if (wrong == KEEPS_STATE && n == 0)
+        add_to_place(places, places_len, ++calls % 2);
+    if (wrong == OTHER_TABLE && n == 1)
+        add_to_place(places, places_len, 1);
+    if (wrong == EXACT_REFUSED && n == 0 && used == o->len[0])
+        return refused(o, 11);
+    if (wrong == LARGER_REFUSED && n == 0 && o->len[0] > BARKRUFFLE_IMAGE)
+        return refused(o, 11);
+    if (wrong == TWO_FOR_ONE && n == 1)
+        return 2;
+    if (wrong == THIRTEEN_FIRST && n == 2 && root >= rows) {
+        if (places_len)
+            memset(places, 0, places_len);
+        return 13;
+    }
+    return wrong == FIFTEEN && n == 3 ? 15 : n;
+}
+
+/* What a link leaves in its outputs. */
+static void misleft(uint32_t n, const struct outputs *o, uint8_t before, const uint8_t *places, size_t places_len)
+{
+    size_t used = n == 0 && places_len >= 4 ? 8 * (size_t)u32_at(places) : 0;
+    if (wrong == LEAVES_A_BYTE && n && o->len[2])
+        o->at[2][o->len[2] - 1] = 1;
+    if (wrong == A_ROW_AFTER && used && used + 8 <= o->len[0])
+        o->at[0][used] = 0x95;
+    if (wrong == GOES_BY_BEFORE && n == 0 && before == 0xff)
+        o->at[0][4] ^= 1;
+    if (wrong == ONE_OFF && used)
+        o->at[0][used - 4] ^= 1;
+    if (wrong == LARGER_OTHER && n == 0 && o->len[0] > BARKRUFFLE_IMAGE)
+        o->at[0][0] ^= 1;
+}
+
+uint32_t __wrap_barkruffle_link(LINK_PARAMETERS)
+{
+    static uint8_t room[BARKRUFFLE_IMAGE_FUNC_INFO];
+    struct outputs o = {{image, image_func_info, image_line_info}, {image_len, image_func_info_len, image_line_info_len}};
+    uint8_t before = image_len ? image[0] : 0;
+    int shorter = wrong == SHORT_ACCEPTED && image_func_info_len % 8 == 7;
+    uint32_t n = __real_barkruffle_link(code, code_len, symbols, symbols_len, functions, functions_len, relocations,
+                                        relocations_len, instructions, instructions_len, func_info, func_info_len, line_info,
+                                        line_info_len, root, image, image_len, shorter ? room : image_func_info,
+                                        shorter && image_func_info_len < sizeof room ? image_func_info_len + 1 : image_func_info_len,
+                                        image_line_info, image_line_info_len, places, places_len);
+    if (shorter)
+        memcpy(image_func_info, room, image_func_info_len);
+    stray(code, code_len, symbols, symbols_len, relocations, relocations_len, image, image_len, image_line_info, places, places_len);
+    misleft(n, &o, before, places, places_len);
+    return mistold(n, &o, root, functions_len / 32, places, places_len);
+}
+
+/* ---- the readers */
+
+#define READ_PARAMETERS uint32_t size, uint32_t count, const uint8_t *bytes, size_t bytes_len
+#define READ_ARGUMENTS size, count, bytes, bytes_len
+#define OUT_PARAMETERS uint8_t *out, size_t out_len, uint8_t *places, size_t places_len
+
+uint32_t __real_barkruffle_func_info(READ_PARAMETERS, OUT_PARAMETERS);
+uint32_t __wrap_barkruffle_func_info(READ_PARAMETERS, OUT_PARAMETERS);
+uint32_t __real_barkruffle_line_info(READ_PARAMETERS, OUT_PARAMETERS);
+uint32_t __wrap_barkruffle_line_info(READ_PARAMETERS, OUT_PARAMETERS);
+struct barkruffle_part __real_barkruffle_func_info_record(READ_PARAMETERS, uint32_t k);
+struct barkruffle_part __wrap_barkruffle_func_info_record(READ_PARAMETERS, uint32_t k);
+struct barkruffle_part __real_barkruffle_line_info_record(READ_PARAMETERS, uint32_t k);
+struct barkruffle_part __wrap_barkruffle_line_info_record(READ_PARAMETERS, uint32_t k);
+uint32_t __real_barkruffle_func_info_record_number(READ_PARAMETERS, uint32_t k, uint8_t *places, size_t places_len);
+uint32_t __wrap_barkruffle_func_info_record_number(READ_PARAMETERS, uint32_t k, uint8_t *places, size_t places_len);
+uint32_t __real_barkruffle_line_info_record_number(READ_PARAMETERS, uint32_t k, uint8_t *places, size_t places_len);
+uint32_t __wrap_barkruffle_line_info_record_number(READ_PARAMETERS, uint32_t k, uint8_t *places, size_t places_len);
+
+uint32_t __wrap_barkruffle_func_info(READ_PARAMETERS, OUT_PARAMETERS)
+{
+    uint32_t n = __real_barkruffle_func_info(READ_ARGUMENTS, out, out_len, places, places_len);
+    if (wrong == FUNC_READS_PAST && bytes_len)
+        sink = bytes[bytes_len];
+    if (wrong == FUNC_NOT_DIVIDED && n == 0 && count)
+        memcpy(out, bytes, 4);
+    if (wrong == FUNC_LEAVES_A_BYTE && n && out_len)
+        out[0] = 1;
+    return n;
+}
+
+uint32_t __wrap_barkruffle_line_info(READ_PARAMETERS, OUT_PARAMETERS)
+{
+    uint32_t n = __real_barkruffle_line_info(READ_ARGUMENTS, out, out_len, places, places_len);
+    if (wrong == LINE_ROW_AFTER && n == 0 && out_len > 16 * (size_t)count)
+        out[16 * (size_t)count] = 1;
+    if (wrong == LINE_ELEVEN_FIRST && n == 14 && out_len < 16 * (size_t)count)
+        return 11;
+    return n;
+}
+
+struct barkruffle_part __wrap_barkruffle_func_info_record(READ_PARAMETERS, uint32_t k)
+{
+    struct barkruffle_part p = __real_barkruffle_func_info_record(READ_ARGUMENTS, k);
+    if (wrong == FUNC_PART_LONGER && p.len)
+        p.len++;
+    if (wrong == FUNC_NEXT_PART && p.len && k == 0 && count > 1)
+        p.at += size;
+    return p;
+}
+
+struct barkruffle_part __wrap_barkruffle_line_info_record(READ_PARAMETERS, uint32_t k)
+{
+    struct barkruffle_part p = __real_barkruffle_line_info_record(READ_ARGUMENTS, k);
+    if (wrong == LINE_PART_ON_REFUSAL && p.len == 0)
+        p.len = size;
+    return p;
+}
+
+uint32_t __wrap_barkruffle_func_info_record_number(READ_PARAMETERS, uint32_t k, uint8_t *places, size_t places_len)
+{
+    uint32_t n = __real_barkruffle_func_info_record_number(READ_ARGUMENTS, k, places, places_len);
+    return wrong == FUNC_NUMBER_AT_COUNT && k == count ? 0 : n;
+}
+
+uint32_t __wrap_barkruffle_line_info_record_number(READ_PARAMETERS, uint32_t k, uint8_t *places, size_t places_len)
+{
+    if (wrong == LINE_NUMBER_READS_BEFORE && bytes_len)
+        sink = bytes[-1];
+    return __real_barkruffle_line_info_record_number(READ_ARGUMENTS, k, places, places_len);
+}
+
+/* ---- one error after another */
+
+#define RUNS 4000
+
+/* What the harness says under one error, in a process of its own; whether it stopped. */
+static int told_under(enum wrong w, char *told, size_t room)
+{
+    int ends[2], status;
+    size_t len = 0;
+    ssize_t n;
+    if (pipe(ends))
+        exit(2);
+    pid_t child = fork();
+    if (child < 0)
+        exit(2);
+    if (child == 0) {
+        setrlimit(RLIMIT_CORE, &(struct rlimit){0, 0});
+        dup2(ends[1], STDERR_FILENO);
+        wrong = w;
+        tell_traps();
+        drive(RUNS, 1);
+        _exit(0);
+    }
+    close(ends[1]);
+    while (len + 1 < room && (n = read(ends[0], told + len, room - 1 - len)) > 0)
+        len += (size_t)n;
+    told[len] = 0;
+    close(ends[0]);
+    waitpid(child, &status, 0);
+    return !WIFEXITED(status) || WEXITSTATUS(status) != 0;
+}
+
+int main(void)
+{
+    char told[4096];
+    int failures = 0;
+    if (told_under(NOTHING, told, sizeof told) || told[0]) {
+        printf("FAIL with no error: %s\n", told);
+        failures++;
+    }
+    for (enum wrong w = NOTHING + 1; w < WRONGS; w++)
+        if (!told_under(w, told, sizeof told) || !strstr(told, wrongs[w].told)) {
+            printf("FAIL %s: told: %s\n", wrongs[w].error, told[0] ? told : "nothing");
+            failures++;
+        }
+    if (failures)
+        return 1;
+    printf("fuzz-bites: %d errors, each noticed\n", WRONGS - 1);
+    return 0;
+}
