@@ -135,28 +135,22 @@ static int doubled(const struct bytes *b, int t, size_t k)
     return 0;
 }
 
-static void drop_row(struct bytes *b, int t, size_t k)
-{
-    uint8_t *r = b->at + k * row_size[t];
-    b->len -= row_size[t];
-    memmove(r, r + row_size[t], b->len - k * row_size[t]);
-}
-
 static void right_table(struct bytes *b, int t)
 {
     size_t rows = b->len / row_size[t];
     if (rows > most_rows[t])
         rows = most_rows[t];
-    b->len = rows * row_size[t];
     for (size_t k = 0; k < rows; k++)
         right_row(b->at + k * row_size[t], t);
     if (t != 5)
         qsort(b->at, rows, row_size[t], t <= 2 ? by_number : by_pair);
-    for (size_t k = 0; k < b->len / row_size[t];)
-        if (doubled(b, t, k))
-            drop_row(b, t, k);
-        else
-            k++;
+    size_t kept = 0;
+    for (size_t k = 0; k < rows; k++) {
+        if (kept < k)
+            memcpy(b->at + kept * row_size[t], b->at + k * row_size[t], row_size[t]);
+        kept += !doubled(b, t, kept);
+    }
+    b->len = kept * row_size[t];
 }
 
 /* One of tables 6 to 8 as long as table 3 says; what table 3 asks past the limit it asks no more. */
