@@ -55,6 +55,11 @@ static void finding(const char *what)
 
 const char *entry_tried(void) { return entries[now].name; }
 
+#ifdef FUZZING_BUILD_MODE_UNSAFE_FOR_PRODUCTION
+void __asan_on_error(void);
+void __asan_on_error(void) { fprintf(stderr, "fuzz: in %s\n", entries[now].name); }
+#endif
+
 static void hold(int holds, const char *what)
 {
     if (!holds)
@@ -71,7 +76,7 @@ struct round {
     size_t places_len;
 };
 
-static const struct round first = {AT_END, 0x5a, 0}, again = {AT_START, 0xff, 0};
+static const struct round first = {AT_END, 0x5a, 0}, again = {AT_START, 0xff, 0}, odd = {AT_ODD, 0x96, 0};
 
 /* What a call left. */
 struct left {
@@ -79,12 +84,10 @@ struct left {
     uint8_t places[24], out[3][MOST];
 };
 
-static struct left one, two, larger;
+static struct left one, two, other;
 
-static void open_round(const struct round *r)
-{
-    lend_from(r->side, r->side == AT_END ? 0xa5 : 0x3c, r->side == AT_START);
-}
+/* A buffer of no bytes is NULL in the second call. */
+static void open_round(const struct round *r) { lend_from(r->side, r->side == AT_START); }
 
 static void count(struct answer a)
 {
@@ -192,6 +195,9 @@ static void try_maps(struct input *in)
     maps_once(in, again, BARKRUFFLE_PLACES, &two);
     same_answer(&one, in->places_len, &two);
     hold(same(one.out[0], two.out[0], in->table[6].len), "called twice, other bytes");
+    maps_once(in, odd, BARKRUFFLE_PLACES, &other);
+    same_answer(&other, BARKRUFFLE_PLACES, &two);
+    hold(same(other.out[0], two.out[0], in->table[6].len), "called twice, other bytes");
     plain_rules(in, 6, 0, &two.answer);
     if (two.answer.number == 0)
         only_rewritten(in, &two);
@@ -248,14 +254,14 @@ static void try_larger(const struct input *in, const struct left *full)
     for (int i = 0; i < 3; i++)
         if (in->out_len[i] > most[i])
             return;
-    link_once(in, most, first, BARKRUFFLE_PLACES, &larger);
+    link_once(in, most, first, BARKRUFFLE_PLACES, &other);
     if (full->answer.number == 11)
         return;
-    hold(larger.answer.number == full->answer.number, "larger outputs give another number");
-    hold(memcmp(larger.answer.places, full->answer.places, sizeof full->answer.places) == 0, "larger outputs give other places");
+    hold(other.answer.number == full->answer.number, "larger outputs give another number");
+    hold(memcmp(other.answer.places, full->answer.places, sizeof full->answer.places) == 0, "larger outputs give other places");
     if (full->answer.number == 0)
         for (int i = 0; i < 3; i++)
-            hold(same(larger.out[i], full->out[i], row_out[i] * full->answer.places[i]), "larger outputs get another image");
+            hold(same(other.out[i], full->out[i], row_out[i] * full->answer.places[i]), "larger outputs get another image");
 }
 
 /* Outputs that the image fills exactly are enough, and a byte less in any of them is not. */
@@ -264,16 +270,16 @@ static void try_exact(const struct input *in, const struct left *full)
     size_t exact[3];
     for (int i = 0; i < 3; i++)
         exact[i] = row_out[i] * full->answer.places[i];
-    link_once(in, exact, again, BARKRUFFLE_PLACES, &larger);
-    hold(larger.answer.number == 0, "an image is refused outputs that it fills exactly");
+    link_once(in, exact, odd, BARKRUFFLE_PLACES, &other);
+    hold(other.answer.number == 0, "an image is refused outputs that it fills exactly");
     for (int i = 0; i < 3; i++)
-        hold(same(larger.out[i], full->out[i], exact[i]), "outputs filled exactly get another image");
+        hold(same(other.out[i], full->out[i], exact[i]), "outputs filled exactly get another image");
     for (int i = 0; i < 3; i++) {
         if (exact[i] == 0)
             continue;
         exact[i]--;
-        link_once(in, exact, first, BARKRUFFLE_PLACES, &larger);
-        hold(larger.answer.number == 11, "an image is accepted in an output that is too short");
+        link_once(in, exact, first, BARKRUFFLE_PLACES, &other);
+        hold(other.answer.number == 11, "an image is accepted in an output that is too short");
         exact[i]++;
     }
 }
@@ -328,6 +334,9 @@ static void try_rows(reader *rows, size_t row, const struct input *in)
     read_once(rows, in, again, BARKRUFFLE_PLACES, &two);
     same_answer(&one, in->places_len, &two);
     hold(same(one.out[0], two.out[0], in->rows_len), "called twice, other bytes");
+    read_once(rows, in, odd, BARKRUFFLE_PLACES, &other);
+    same_answer(&other, BARKRUFFLE_PLACES, &two);
+    hold(same(other.out[0], two.out[0], in->rows_len), "called twice, other bytes");
     if (two.answer.number == 0) {
         size_t used = two.answer.places[0] * row;
         hold(used <= in->rows_len && all_zero(two.out[0] + used, in->rows_len - used), "not zero after the rows");

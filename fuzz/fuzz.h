@@ -46,10 +46,10 @@ struct answer model_link(const struct bytes *table, uint32_t root, const size_t 
 struct answer model_read(size_t row, uint32_t size, uint32_t count, const struct bytes *data, uint8_t *out, size_t out_len);
 struct answer model_record(size_t row, uint32_t size, uint32_t count, const struct bytes *data, uint32_t k);
 
-/* lend.c: each buffer of a call lies flush to an unmapped page, at its end or at its start, with guard bytes on the other
- * side. What is only read is lent through a mapping that cannot be written. */
-enum side { AT_END, AT_START };
-void lend_from(enum side side, uint8_t guard, int null_when_empty);
+/* lend.c: each buffer of a call lies at an unmapped page, with its end or with its start, or at an odd address; guard
+ * bytes fill what is mapped around it. What is only read is lent through a mapping that cannot be written. */
+enum side { AT_END, AT_START, AT_ODD };
+void lend_from(enum side side, int null_when_empty);
 const uint8_t *lend(const uint8_t *bytes, size_t len);
 uint8_t *lend_filled(uint8_t fill, size_t len);
 uint8_t *lend_to_write(const uint8_t *bytes, size_t len);

@@ -1,6 +1,7 @@
 /* Buffers lent between guards. Regions of a file in memory are mapped twice, to be written and only to be read, with
- * pages around each that are not mapped at all. A buffer lies flush to one end of its region; between it and the other
- * end stand guard bytes. So a stray read traps on one side, and on the other in the run that lends from there. */
+ * pages around each that are not mapped at all. A buffer lies at one end of its region, or at an odd address inside;
+ * all else in the region is guard bytes. So a stray write is seen wherever it goes near the buffer, and a stray read
+ * traps on one side, and on the other in the run that lends from there. */
 #define _GNU_SOURCE
 #include <stdio.h>
 #include <stdlib.h>
@@ -10,19 +11,22 @@
 #include "fuzz.h"
 
 #define REGIONS 12
-#define PAGE 4096u
-#define REGION (MOST + 2 * PAGE)
+#define SIZES 4
+#define PAGE ((size_t)4096)
 #define GAP (64 * PAGE)
-#define GUARD PAGE /* guard bytes that are looked at */
+
+/* A buffer takes the smallest region that leaves a page or more for guard bytes. */
+static const size_t region_size[SIZES] = {2 * PAGE, 4 * PAGE, 9 * PAGE, MOST + 2 * PAGE};
 
 struct lent {
     const uint8_t *copy; /* what it must hold still, or NULL where it may be written */
-    uint8_t *own;        /* as we write it */
-    const uint8_t *seen; /* as it is lent */
-    size_t len;
+    uint8_t *region, *own; /* as we write them */
+    const uint8_t *seen;   /* the region as it is lent */
+    size_t size, len;
 };
 
-static uint8_t *to_write[REGIONS], *to_read[REGIONS], copies[REGIONS][MOST], guards[GUARD];
+static uint8_t *to_write[REGIONS][SIZES], *to_read[REGIONS][SIZES], copies[REGIONS][MOST];
+static uint8_t guards_of[3][MOST + 2 * PAGE], *guards; /* by side */
 static struct lent lent[REGIONS];
 static int lent_count, null_when_empty;
 static enum side side;
@@ -39,29 +43,42 @@ static void *need(void *p)
 
 static void map_regions(void)
 {
+    size_t sum = 0, at = 0;
+    for (int j = 0; j < SIZES; j++)
+        sum += region_size[j];
     int file = memfd_create("lent", 0);
-    if (file < 0 || ftruncate(file, (off_t)REGIONS * REGION)) {
+    if (file < 0 || ftruncate(file, (off_t)(REGIONS * sum))) {
         perror("fuzz: memfd_create");
         exit(2);
     }
-    uint8_t *all = need(mmap(NULL, 2 * REGIONS * (size_t)(REGION + GAP) + GAP, PROT_NONE, MAP_PRIVATE | MAP_ANONYMOUS | MAP_NORESERVE, -1, 0));
-    for (int i = 0; i < REGIONS; i++) {
-        uint8_t *at = all + GAP + 2 * (size_t)i * (REGION + GAP);
-        to_write[i] = need(mmap(at, REGION, PROT_READ | PROT_WRITE, MAP_SHARED | MAP_FIXED, file, (off_t)i * REGION));
-        to_read[i] = need(mmap(at + REGION + GAP, REGION, PROT_READ, MAP_SHARED | MAP_FIXED, file, (off_t)i * REGION));
-    }
+    uint8_t *free_pages = need(mmap(NULL, 2 * REGIONS * (sum + SIZES * GAP) + GAP, PROT_NONE,
+                                    MAP_PRIVATE | MAP_ANONYMOUS | MAP_NORESERVE, -1, 0));
+    free_pages += GAP;
+    for (int i = 0; i < REGIONS; i++)
+        for (int j = 0; j < SIZES; j++) {
+            size_t n = region_size[j];
+            to_write[i][j] = need(mmap(free_pages, n, PROT_READ | PROT_WRITE, MAP_SHARED | MAP_FIXED, file, (off_t)at));
+            free_pages += n + GAP;
+            to_read[i][j] = need(mmap(free_pages, n, PROT_READ, MAP_SHARED | MAP_FIXED, file, (off_t)at));
+            free_pages += n + GAP;
+            at += n;
+        }
     close(file);
 }
 
-/* Buffers lent from now on lie at that side; the guard bytes are these. */
-void lend_from(enum side from, uint8_t guard, int null)
+/* Buffers lent from now on lie at that side. */
+void lend_from(enum side from, int null)
 {
-    if (!to_write[0])
+    static const uint8_t guard[3] = {0xa5, 0x3c, 0xc3};
+    if (!guards) {
         map_regions();
+        for (int i = 0; i < 3; i++)
+            memset(guards_of[i], guard[i], sizeof guards_of[i]);
+    }
+    guards = guards_of[from];
     lent_count = 0;
     side = from;
     null_when_empty = null;
-    memset(guards, guard, sizeof guards);
 }
 
 static struct lent *next(size_t len, int only_read)
@@ -70,16 +87,22 @@ static struct lent *next(size_t len, int only_read)
         fprintf(stderr, "fuzz: too much lent\n");
         exit(2);
     }
-    int i = lent_count++;
-    size_t at = side == AT_END ? REGION - len : 0;
+    int i = lent_count++, j = 0;
+    while (len + PAGE > region_size[j])
+        j++;
     struct lent *l = &lent[i];
-    l->own = to_write[i] + at;
-    l->seen = only_read ? to_read[i] + at : l->own;
+    l->region = to_write[i][j];
+    l->seen = only_read ? to_read[i][j] : l->region;
+    l->size = region_size[j];
+    l->own = l->region + (side == AT_END ? l->size - len : side == AT_START ? 0 : 33 + 2 * (size_t)i);
     l->len = len;
     l->copy = NULL;
-    memcpy(side == AT_END ? l->own - GUARD : l->own + len, guards, GUARD);
+    memcpy(l->region, guards, (size_t)(l->own - l->region));
+    memcpy(l->own + len, guards, (size_t)(l->region + l->size - l->own) - len);
     return l;
 }
+
+static uint8_t *lent_to_write(const struct lent *l) { return l->len == 0 && null_when_empty ? NULL : l->own; }
 
 const uint8_t *lend(const uint8_t *bytes, size_t len)
 {
@@ -87,35 +110,40 @@ const uint8_t *lend(const uint8_t *bytes, size_t len)
     l->copy = copies[l - lent];
     memcpy(copies[l - lent], bytes, len);
     memcpy(l->own, bytes, len);
-    return len == 0 && null_when_empty ? NULL : l->seen;
+    return len == 0 && null_when_empty ? NULL : l->seen + (l->own - l->region);
 }
 
 uint8_t *lend_to_write(const uint8_t *bytes, size_t len)
 {
     struct lent *l = next(len, 0);
     memcpy(l->own, bytes, len);
-    return len == 0 && null_when_empty ? NULL : l->own;
+    return lent_to_write(l);
 }
 
 uint8_t *lend_filled(uint8_t fill, size_t len)
 {
     struct lent *l = next(len, 0);
     memset(l->own, fill, len);
-    return len == 0 && null_when_empty ? NULL : l->own;
+    return lent_to_write(l);
+}
+
+static const char *tell(const char *what, int i)
+{
+    snprintf(told, sizeof told, "%s buffer %d of %zu bytes", what, i, lent[i].len);
+    return told;
 }
 
 const char *take_back(void)
 {
     for (int i = 0; i < lent_count; i++) {
         const struct lent *l = &lent[i];
-        if (memcmp(side == AT_END ? l->own - GUARD : l->own + l->len, guards, GUARD)) {
-            snprintf(told, sizeof told, "guard bytes written %s buffer %d", side == AT_END ? "before" : "after", i);
-            return told;
-        }
-        if (l->copy && memcmp(l->copy, l->own, l->len)) {
-            snprintf(told, sizeof told, "a buffer that is only read has changed: buffer %d", i);
-            return told;
-        }
+        size_t before = (size_t)(l->own - l->region);
+        if (memcmp(l->region, guards, before))
+            return tell("guard bytes written before", i);
+        if (memcmp(l->own + l->len, guards, l->size - before - l->len))
+            return tell("guard bytes written after", i);
+        if (l->copy && memcmp(l->copy, l->own, l->len))
+            return tell("a change of the read-only", i);
     }
     lent_count = 0;
     return NULL;
@@ -126,12 +154,9 @@ const char *trapped_at(const void *address)
 {
     const uint8_t *p = address;
     for (int i = 0; i < lent_count; i++) {
-        const uint8_t *region = lent[i].copy ? to_read[i] : to_write[i];
-        if (p < region - GAP / 2 || p >= region + REGION + GAP / 2)
-            continue;
-        const char *where = p < region ? "an access before" : p >= region + REGION ? "an access past" : "a write to the read-only";
-        snprintf(told, sizeof told, "trapped: %s buffer %d of %zu bytes", where, i, lent[i].len);
-        return told;
+        const uint8_t *start = lent[i].seen, *end = start + lent[i].size;
+        if (p >= start - GAP / 2 && p < end + GAP / 2)
+            return tell(p < start ? "trapped: an access before" : p >= end ? "trapped: an access past" : "trapped: a write to the read-only", i);
     }
     return "trapped: an access to no buffer that is lent";
 }

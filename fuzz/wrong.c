@@ -12,7 +12,7 @@
 enum wrong {
     NOTHING, READS_PAST, READS_BEFORE, WRITES_PAST, WRITES_BEFORE, STORES_IN_CONST, WRITES_PAST_PLACES, LEAVES_A_BYTE,
     ONE_SLOT_MORE, A_ROW_AFTER, GOES_BY_BEFORE, KEEPS_STATE, EXACT_REFUSED, SHORT_ACCEPTED, TWO_FOR_ONE, THIRTEEN_FIRST,
-    OTHER_TABLE, FIFTEEN, ONE_OFF, LARGER_OTHER, LARGER_REFUSED, MAPS_REFUSED_CHANGES, MAPS_ONE_MORE, MAPS_OPCODE,
+    OTHER_TABLE, FIFTEEN, ONE_OFF, LARGER_OTHER, LARGER_REFUSED, ODD_OTHER, WRITES_FAR, MAPS_REFUSED_CHANGES, MAPS_ONE_MORE, MAPS_OPCODE,
     MAPS_UNSAID, MAPS_DESCRIPTOR, MAPS_PART_OF_PLACE, FUNC_READS_PAST, FUNC_NOT_DIVIDED, FUNC_LEAVES_A_BYTE, LINE_ROW_AFTER,
     LINE_ELEVEN_FIRST, FUNC_PART_LONGER, LINE_PART_ON_REFUSAL, FUNC_NEXT_PART, FUNC_NUMBER_AT_COUNT, LINE_NUMBER_READS_BEFORE,
     WRONGS
@@ -42,6 +42,8 @@ static const struct {
     [ONE_OFF] = {"link sets the last slot's immediate one off", "barkruffle_link: other bytes than document 01's"},
     [LARGER_OTHER] = {"link makes another image where there is more room", "larger outputs get another image"},
     [LARGER_REFUSED] = {"link answers 11 where there is more room", "larger outputs give another number"},
+    [ODD_OTHER] = {"link makes another image at an odd address", "outputs filled exactly get another image"},
+    [WRITES_FAR] = {"link writes 4000 bytes past the function records", "barkruffle_link: guard bytes written after buffer 8"},
     [MAPS_REFUSED_CHANGES] = {"a refused map step changes the last slot", "a refused map step changes a byte"},
     [MAPS_ONE_MORE] = {"the map step tells one relocation too many", "barkruffle_relocate_maps: other places than document 01's"},
     [MAPS_OPCODE] = {"the map step changes an opcode", "a map step changes more than it may"},
@@ -183,6 +185,10 @@ static void misleft(uint32_t n, const struct outputs *o, uint8_t before, const u
         o->at[0][4] ^= 1;
     if (wrong == ONE_OFF && used)
         o->at[0][used - 4] ^= 1;
+    if (wrong == ODD_OTHER && n == 0 && (uintptr_t)o->at[0] % 2 && (uintptr_t)o->at[0] % 4096 < 64)
+        o->at[0][0] ^= 1;
+    if (wrong == WRITES_FAR && o->len[1] && starts_a_page(o->at[1]))
+        o->at[1][o->len[1] + 4000] = 0;
     if (wrong == LARGER_OTHER && n == 0 && o->len[0] > BARKRUFFLE_IMAGE)
         o->at[0][0] ^= 1;
 }
