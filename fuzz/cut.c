@@ -429,7 +429,9 @@ static void generate(struct input *in, struct source *s)
         in->table[t].len = 0;
     in->maps_first = (int)below(s, 2);
     in->places_len = rare(s, 128) ? below(s, 24) : BARKRUFFLE_PLACES;
-    make_info(in, s->left > 200 ? &(struct source){s->at + s->left - 200, 200} : s);
+    struct source rest = {s->at + s->left - s->left / 4, s->left / 4}; /* the last quarter is the readers' */
+    s->left -= rest.left;
+    make_info(in, &rest);
     uint32_t damages = rare(s, 70) ? 1 + below(s, 3) : 0;
     add_functions(&m);
     in->root = below(s, m.functions) + (rare(s, 6) ? take(s, 4) : 0);

@@ -47,7 +47,7 @@ void drive(unsigned runs, uint64_t seed)
     static uint8_t input[4096];
     uint64_t state = seed * 0x9e3779b97f4a7c15u + 1;
     while (runs--) {
-        size_t len = 1 + next(&state) % (next(&state) % 8 ? 400 : sizeof input);
+        size_t len = 1 + next(&state) % (next(&state) % 8 ? 600 : sizeof input);
         for (size_t i = 0; i < len; i++)
             input[i] = (uint8_t)(next(&state) >> 24);
         uint64_t way = next(&state) % 16;

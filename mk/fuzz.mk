@@ -44,7 +44,7 @@ fuzz-tools:
 	    "libclang-rt-$$($(CLANG) -dumpversion | cut -d. -f1)-dev"; exit 1; }
 
 fuzz: fuzz-tools lib fuzz-named
-	$(CLANG) $(CFLAGS_FUZZ) $(SANITIZERS) -o $(FUZZ_OUT)/fuzzer $(FUZZ_HARNESS) $(ARCHIVE)
+	$(CLANG) $(CFLAGS_FUZZ) $(SANITIZERS) -o $(FUZZ_OUT)/fuzzer fuzz/mutate.c $(FUZZ_HARNESS) $(ARCHIVE)
 	mkdir -p $(FUZZ_OUT)/corpus $(FUZZ_OUT)/findings
 	python3 fuzz/seeds.py $(FUZZ_OUT)/seeds
 	$(FUZZ_OUT)/fuzzer -max_total_time=$(FUZZ_TIME) -max_len=8192 -timeout=20 -print_final_stats=1 \
