@@ -11,16 +11,21 @@ FUZZ_OUT = target/fuzz
 FUZZ_HARNESS = fuzz/entries.c fuzz/cut.c fuzz/lend.c fuzz/model.c
 FUZZ_PLAIN = fuzz/drive.c $(FUZZ_HARNESS)
 CFLAGS_FUZZ = -std=c11 -O2 -g -Wall -Wextra -Werror -Iinclude
-SANITIZERS = -fsanitize=fuzzer,address,undefined -fno-sanitize-recover=undefined
+# clang does not define that name by itself; it turns on the counters by which the fuzzer sees answers and places.
+SANITIZERS = -DFUZZING_BUILD_MODE_UNSAFE_FOR_PRODUCTION -fsanitize=fuzzer,address,undefined -fno-sanitize-recover=undefined
 OPEN = (
 FUZZ_ENTRIES := $(shell sed -n 's/^\(uint32_t\|struct barkruffle_part\) \(barkruffle_[a-z_]*\)$(OPEN)$$/\2/p' include/barkruffle.h)
 
 .PHONY: fuzz test-fuzz fuzz-bites fuzz-named fuzz-tools
 
-# Every declared entry is called by the harness. (One without a wrong stand-in fails fuzz-bites, which does not link.)
+# Every declared entry is named by the harness, in its code and as a string. (One without a wrong stand-in fails fuzz-bites,
+# which then does not link.)
 fuzz-named:
 	@mkdir -p $(FUZZ_OUT)
-	@for f in $(FUZZ_ENTRIES); do grep -qw "$$f" fuzz/entries.c || { echo "fuzz: fuzz/entries.c does not call $$f"; exit 1; }; done
+	@test -n "$(FUZZ_ENTRIES)"
+	@for f in $(FUZZ_ENTRIES); do \
+	  sed 's/"[^"]*"//g' fuzz/entries.c | grep -qw "$$f" && grep -q "\"$$f\"" fuzz/entries.c || \
+	  { echo "fuzz: fuzz/entries.c does not call $$f"; exit 1; }; done
 
 $(FUZZ_OUT)/entries: fuzz/main.c $(FUZZ_PLAIN) fuzz/fuzz.h include/barkruffle.h mk/fuzz.mk lib | fuzz-named
 	$(GCC) $(CFLAGS_FUZZ) -o $@ fuzz/main.c $(FUZZ_PLAIN) $(ARCHIVE)
