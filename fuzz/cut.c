@@ -42,7 +42,9 @@ static void take_bytes(struct source *s, struct bytes *b, uint32_t length)
 static void cut_raw(struct input *in, struct source *s)
 {
     uint32_t lengths[9], data;
-    in->maps_first = (int)take(s, 1) & 1;
+    uint32_t flags = take(s, 1);
+    in->maps_first = flags & 1;
+    in->shared = flags >> 1 & 1;
     for (int t = 1; t <= 8; t++)
         lengths[t] = take(s, 4);
     in->root = take(s, 4);
@@ -428,6 +430,7 @@ static void generate(struct input *in, struct source *s)
     for (int t = 1; t <= 8; t++)
         in->table[t].len = 0;
     in->maps_first = (int)below(s, 2);
+    in->shared = rare(s, 16);
     in->places_len = rare(s, 128) ? below(s, 24) : BARKRUFFLE_PLACES;
     struct source rest = {s->at + s->left - s->left / 4, s->left / 4}; /* the last quarter is the readers' */
     s->left -= rest.left;

@@ -26,6 +26,7 @@ struct input {
     size_t rows_len;
     size_t places_len;
     int maps_first; /* link what the map step made of table 6 */
+    int shared;     /* in the link, tables 7 and 8 are lent as the start of table 6 */
 };
 
 struct answer {
@@ -61,6 +62,9 @@ int LLVMFuzzerTestOneInput(const uint8_t *data, size_t len);
 int LLVMFuzzerInitialize(int *argc, char ***argv);
 const char *entry_tried(void);
 int report(void); /* prints how often each entry gave each number; 0 if each number of the header was reached */
+
+/* long.c: lengths past 32 bits. */
+void try_long(void);
 
 /* drive.c: pseudo-random inputs, and traps told in words. */
 void tell_traps(void);

@@ -1,5 +1,5 @@
-/* The harness as a plain program: entries RUNS SEED [FILE...] replays the files, then makes that many inputs of its own.
- * Fails where an entry did not give every number that the header says it can. */
+/* The harness as a plain program: entries RUNS SEED [FILE...] tries long lengths, replays the files, then makes that many
+ * inputs of its own. Fails where an entry did not give every number that the header says it can. */
 #include <stdio.h>
 #include <stdlib.h>
 #include "fuzz.h"
@@ -24,6 +24,7 @@ int main(int argc, char **argv)
         return 2;
     }
     tell_traps();
+    try_long();
     for (int i = 3; i < argc; i++)
         replay(argv[i]);
     drive((unsigned)strtoul(argv[1], NULL, 10), strtoull(argv[2], NULL, 10));

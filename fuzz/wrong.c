@@ -15,7 +15,7 @@ enum wrong {
     OTHER_TABLE, FIFTEEN, ONE_OFF, LARGER_OTHER, LARGER_REFUSED, ODD_OTHER, WRITES_FAR, MAPS_REFUSED_CHANGES, MAPS_ONE_MORE, MAPS_OPCODE,
     MAPS_UNSAID, MAPS_DESCRIPTOR, MAPS_PART_OF_PLACE, FUNC_READS_PAST, FUNC_NOT_DIVIDED, FUNC_LEAVES_A_BYTE, LINE_ROW_AFTER,
     LINE_ELEVEN_FIRST, FUNC_PART_LONGER, LINE_PART_ON_REFUSAL, FUNC_NEXT_PART, FUNC_NUMBER_AT_COUNT, LINE_NUMBER_READS_BEFORE,
-    WRONGS
+    LENGTH_IN_32_BITS, PART_IN_32_BITS, WRONGS
 };
 
 /* The error, and what the harness has to say. */
@@ -60,6 +60,8 @@ static const struct {
     [FUNC_NEXT_PART] = {"the part of function record 0 is that of record 1", "barkruffle_func_info_record: another part than document 01's"},
     [FUNC_NUMBER_AT_COUNT] = {"the record at the count is told as done", "barkruffle_func_info_record_number: the number of a record is not its part's"},
     [LINE_NUMBER_READS_BEFORE] = {"a record's number reads before the data", "barkruffle_line_info_record_number: trapped: an access before buffer 0"},
+    [LENGTH_IN_32_BITS] = {"link takes the low 32 bits of a length", "barkruffle_link: a length past 32 bits is not 1"},
+    [PART_IN_32_BITS] = {"a part starts at the low 32 bits of its place", "barkruffle_line_info_record: data past 32 bits"},
 };
 
 static enum wrong wrong;
@@ -198,6 +200,8 @@ uint32_t __wrap_barkruffle_link(LINK_PARAMETERS)
     static uint8_t room[BARKRUFFLE_IMAGE_FUNC_INFO];
     struct outputs o = {{image, image_func_info, image_line_info}, {image_len, image_func_info_len, image_line_info_len}};
     uint8_t before = image_len ? image[0] : 0;
+    if (wrong == LENGTH_IN_32_BITS)
+        relocations_len = (uint32_t)relocations_len;
     int shorter = wrong == SHORT_ACCEPTED && image_func_info_len % 8 == 7;
     uint32_t n = __real_barkruffle_link(code, code_len, symbols, symbols_len, functions, functions_len, relocations,
                                         relocations_len, instructions, instructions_len, func_info, func_info_len, line_info,
@@ -267,6 +271,8 @@ struct barkruffle_part __wrap_barkruffle_line_info_record(READ_PARAMETERS, uint3
     struct barkruffle_part p = __real_barkruffle_line_info_record(READ_ARGUMENTS, k);
     if (wrong == LINE_PART_ON_REFUSAL && p.len == 0)
         p.len = size;
+    if (wrong == PART_IN_32_BITS)
+        p.at = (uint32_t)p.at;
     return p;
 }
 
@@ -304,6 +310,8 @@ static int told_under(enum wrong w, char *told, size_t room)
         wrong = w;
         tell_traps();
         drive(RUNS, 1);
+        if (w == NOTHING || w >= LENGTH_IN_32_BITS)
+            try_long();
         _exit(0);
     }
     close(ends[1]);

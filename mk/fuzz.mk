@@ -4,11 +4,11 @@
 # make test-fuzz   the same harness without clang: pseudo-random inputs, a few seconds; and fuzz-bites
 # make fuzz-bites  the harness against wrong stand-ins of the entries, each of which it has to notice
 FUZZ_TIME ?= 120
-FUZZ_RUNS ?= 60000
+FUZZ_RUNS ?= 40000
 FUZZ_SEED ?= 1
 CLANG ?= clang
 FUZZ_OUT = target/fuzz
-FUZZ_HARNESS = fuzz/entries.c fuzz/cut.c fuzz/lend.c fuzz/model.c
+FUZZ_HARNESS = fuzz/entries.c fuzz/cut.c fuzz/lend.c fuzz/long.c fuzz/model.c
 FUZZ_PLAIN = fuzz/drive.c $(FUZZ_HARNESS)
 CFLAGS_FUZZ = -std=c11 -O2 -g -Wall -Wextra -Werror -Iinclude
 # clang does not define that name by itself; it turns on the counters by which the fuzzer sees answers and places.

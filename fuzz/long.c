@@ -1,0 +1,83 @@
+/* Lengths past 32 bits, once in each run: memory that is all zero and takes no room, 2^32 bytes and some more, lent as each
+ * table in turn and as the readers' data. A length or a product cut to 32 bits would be taken for a small one. */
+#define _GNU_SOURCE
+#include <stdio.h>
+#include <stdlib.h>
+#include <string.h>
+#include <sys/mman.h>
+#include "fuzz.h"
+
+/* Records of 65,544 bytes, 65,536 of them: 2^32 + 524,288 bytes, a multiple of every row. */
+#define SIZE 65544u
+#define COUNT 65536u
+#define LONG ((size_t)SIZE * COUNT)
+
+static void hold(int holds, const char *entry, const char *what)
+{
+    if (holds)
+        return;
+    fprintf(stderr, "fuzz: %s: %s\n", entry, what);
+    abort();
+}
+
+static int is_answer(uint32_t number, const uint8_t *places, uint32_t want, uint32_t a)
+{
+    return number == want && u32_at(places) == a && u64_at(places + 4) == 0;
+}
+
+/* Each table alone: 1 with its number. By the low 32 bits of its length it has one row, table 3 none. */
+static void long_tables(const uint8_t *zeros)
+{
+    uint8_t places[BARKRUFFLE_PLACES], out[3][16];
+    for (uint32_t t = 1; t <= 8; t++) {
+        size_t n[9] = {0};
+        n[t] = ((size_t)1 << 32) + (t == 3 ? 0 : row_size[t]);
+        if (t <= 6) /* a refused map step does not write, so what it may write can be read-only here */
+            hold(is_answer(barkruffle_relocate_maps(zeros, n[1], zeros, n[2], zeros, n[3], zeros, n[4], zeros, n[5],
+                                                    (uint8_t *)(uintptr_t)zeros, n[6], places, sizeof places), places, 1, t),
+                 "barkruffle_relocate_maps", "a length past 32 bits is not 1");
+        memset(out, 0x5a, sizeof out);
+        if (t != 5)
+            hold(is_answer(barkruffle_link(zeros, n[1], zeros, n[2], zeros, n[3], zeros, n[4], zeros, n[6], zeros, n[7], zeros,
+                                           n[8], 0, out[0], 16, out[1], 16, out[2], 16, places, sizeof places), places, 1, t) &&
+                 u64_at(out[0]) == 0 && memcmp(out[0], out[0] + 1, sizeof out - 1) == 0,
+                 "barkruffle_link", "a length past 32 bits is not 1");
+    }
+}
+
+static int is_part(struct barkruffle_part p, uint64_t at, uint64_t len) { return p.at == at && p.len == len; }
+
+static void long_data(const uint8_t *zeros)
+{
+    static uint8_t rows[16 * COUNT];
+    uint8_t places[BARKRUFFLE_PLACES];
+    const uint64_t last = (uint64_t)SIZE * (COUNT - 1);
+    hold(is_answer(barkruffle_func_info(SIZE, COUNT, zeros, LONG, rows, 8 * COUNT, places, sizeof places), places, 0, COUNT) &&
+         is_answer(barkruffle_func_info(SIZE, COUNT, zeros, (uint32_t)LONG, rows, 8 * COUNT, places, sizeof places), places, 14, 0),
+         "barkruffle_func_info", "data past 32 bits");
+    hold(is_answer(barkruffle_line_info(SIZE, COUNT, zeros, LONG, rows, 16 * COUNT, places, sizeof places), places, 0, COUNT) &&
+         is_answer(barkruffle_line_info(SIZE, COUNT, zeros, (uint32_t)LONG, rows, 16 * COUNT, places, sizeof places), places, 14, 0),
+         "barkruffle_line_info", "data past 32 bits");
+    hold(is_part(barkruffle_func_info_record(SIZE, COUNT, zeros, LONG, COUNT - 1), last, SIZE) &&
+         is_part(barkruffle_func_info_record(SIZE, COUNT, zeros, LONG, COUNT), 0, 0),
+         "barkruffle_func_info_record", "data past 32 bits");
+    hold(is_part(barkruffle_line_info_record(SIZE, COUNT, zeros, LONG, COUNT - 1), last, SIZE) &&
+         is_part(barkruffle_line_info_record(SIZE, COUNT, zeros, LONG, COUNT), 0, 0),
+         "barkruffle_line_info_record", "data past 32 bits");
+    hold(is_answer(barkruffle_func_info_record_number(SIZE, COUNT, zeros, LONG, COUNT - 1, places, sizeof places), places, 0, COUNT),
+         "barkruffle_func_info_record_number", "data past 32 bits");
+    hold(is_answer(barkruffle_line_info_record_number(SIZE, COUNT, zeros, LONG, COUNT - 1, places, sizeof places), places, 0, COUNT),
+         "barkruffle_line_info_record_number", "data past 32 bits");
+}
+
+void try_long(void)
+{
+    uint8_t *zeros = mmap(NULL, LONG, PROT_READ, MAP_PRIVATE | MAP_ANONYMOUS | MAP_NORESERVE, -1, 0);
+    if (zeros == MAP_FAILED) {
+        perror("fuzz: lengths past 32 bits are left out: mmap");
+        return;
+    }
+    long_tables(zeros);
+    long_data(zeros);
+    munmap(zeros, LONG);
+}
