@@ -3,6 +3,7 @@
 #                  number that the header says it can
 # make test-fuzz   the same harness without clang: pseudo-random inputs, a few seconds; and fuzz-bites
 # make fuzz-bites  the harness against wrong stand-ins of the entries, each of which it has to notice
+# make fuzz-reached  how many of the archive's instructions the seeds and some inputs reach: figures, not a test
 FUZZ_TIME ?= 120
 FUZZ_RUNS ?= 40000
 FUZZ_SEED ?= 1
@@ -16,7 +17,7 @@ SANITIZERS = -DFUZZING_BUILD_MODE_UNSAFE_FOR_PRODUCTION -fsanitize=fuzzer,addres
 OPEN = (
 FUZZ_ENTRIES := $(shell sed -n 's/^\(uint32_t\|struct barkruffle_part\) \(barkruffle_[a-z_]*\)$(OPEN)$$/\2/p' include/barkruffle.h)
 
-.PHONY: fuzz test-fuzz fuzz-bites fuzz-named fuzz-tools
+.PHONY: fuzz test-fuzz fuzz-bites fuzz-reached fuzz-named fuzz-tools
 
 # Every declared entry is named by the harness, in its code and as a string. (One without a wrong stand-in fails fuzz-bites,
 # which then does not link.)
@@ -58,3 +59,10 @@ fuzz: fuzz-tools lib fuzz-named
 	@grep -a -E '^(stat::|Done|fuzz:)' $(FUZZ_OUT)/log
 	@grep -a ' cov: ' $(FUZZ_OUT)/log | tail -n 1
 	@grep -qa '^fuzz: every number of every entry was reached$$' $(FUZZ_OUT)/log
+
+fuzz-reached: lib fuzz-named
+	python3 fuzz/seeds.py $(FUZZ_OUT)/seeds
+	$(GCC) $(CFLAGS_FUZZ) -no-pie -o $(FUZZ_OUT)/reached fuzz/main.c $(FUZZ_PLAIN) $(ARCHIVE)
+	valgrind -q --tool=callgrind --dump-instr=yes --compress-pos=no --callgrind-out-file=$(FUZZ_OUT)/reached.out \
+	  $(FUZZ_OUT)/reached 3000 $(FUZZ_SEED) $(FUZZ_OUT)/seeds/*
+	@python3 fuzz/reached.py $(FUZZ_OUT)/reached $(FUZZ_OUT)/reached.out $(FUZZ_ENTRIES)
