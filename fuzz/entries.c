@@ -76,7 +76,8 @@ struct round {
     size_t places_len;
 };
 
-static const struct round first = {AT_END, 0x5a, 0}, again = {AT_START, 0xff, 0}, odd = {AT_ODD, 0x96, 0};
+static const struct round first = {AT_END, 0x5a, 0}, again = {AT_START, 0xff, 0};
+static const struct round others[3] = {{AT_ODD, 0x96, 0}, {PACKED_UP, 0x69, 0}, {PACKED_DOWN, 0x0f, 0}};
 
 /* What a call left. */
 struct left {
@@ -195,9 +196,11 @@ static void try_maps(struct input *in)
     maps_once(in, again, BARKRUFFLE_PLACES, &two);
     same_answer(&one, in->places_len, &two);
     hold(same(one.out[0], two.out[0], in->table[6].len), "called twice, other bytes");
-    maps_once(in, odd, BARKRUFFLE_PLACES, &other);
-    same_answer(&other, BARKRUFFLE_PLACES, &two);
-    hold(same(other.out[0], two.out[0], in->table[6].len), "called twice, other bytes");
+    for (int i = 0; i < 3; i++) {
+        maps_once(in, others[i], BARKRUFFLE_PLACES, &other);
+        same_answer(&other, BARKRUFFLE_PLACES, &two);
+        hold(same(other.out[0], two.out[0], in->table[6].len), "called elsewhere, other bytes");
+    }
     plain_rules(in, 6, 0, &two.answer);
     if (two.answer.number == 0)
         only_rewritten(in, &two);
@@ -275,10 +278,12 @@ static void try_exact(const struct input *in, const struct left *full)
     size_t exact[3];
     for (int i = 0; i < 3; i++)
         exact[i] = row_out[i] * full->answer.places[i];
-    link_once(in, exact, odd, BARKRUFFLE_PLACES, &other);
-    hold(other.answer.number == 0, "an image is refused outputs that it fills exactly");
-    for (int i = 0; i < 3; i++)
-        hold(same(other.out[i], full->out[i], exact[i]), "outputs filled exactly get another image");
+    for (int r = 0; r < 3; r++) {
+        link_once(in, exact, others[r], BARKRUFFLE_PLACES, &other);
+        hold(other.answer.number == 0, "an image is refused outputs that it fills exactly");
+        for (int i = 0; i < 3; i++)
+            hold(same(other.out[i], full->out[i], exact[i]), "outputs filled exactly get another image");
+    }
     for (int i = 0; i < 3; i++) {
         if (exact[i] == 0)
             continue;
@@ -340,9 +345,11 @@ static void try_rows(reader *rows, size_t row, const struct input *in)
     read_once(rows, in, again, BARKRUFFLE_PLACES, &two);
     same_answer(&one, in->places_len, &two);
     hold(same(one.out[0], two.out[0], in->rows_len), "called twice, other bytes");
-    read_once(rows, in, odd, BARKRUFFLE_PLACES, &other);
-    same_answer(&other, BARKRUFFLE_PLACES, &two);
-    hold(same(other.out[0], two.out[0], in->rows_len), "called twice, other bytes");
+    for (int i = 0; i < 3; i++) {
+        read_once(rows, in, others[i], BARKRUFFLE_PLACES, &other);
+        same_answer(&other, BARKRUFFLE_PLACES, &two);
+        hold(same(other.out[0], two.out[0], in->rows_len), "called elsewhere, other bytes");
+    }
     if (two.answer.number == 0) {
         size_t used = two.answer.places[0] * row;
         hold(used <= in->rows_len && all_zero(two.out[0] + used, in->rows_len - used), "not zero after the rows");

@@ -48,8 +48,9 @@ struct answer model_read(size_t row, uint32_t size, uint32_t count, const struct
 struct answer model_record(size_t row, uint32_t size, uint32_t count, const struct bytes *data, uint32_t k);
 
 /* lend.c: each buffer of a call lies at an unmapped page, with its end or with its start, or at an odd address; guard
- * bytes fill what is mapped around it. What is only read is lent through a mapping that cannot be written. */
-enum side { AT_END, AT_START, AT_ODD };
+ * bytes fill what is mapped around it, and what is only read is lent through a mapping that cannot be written. Or all lie
+ * side by side. */
+enum side { AT_END, AT_START, AT_ODD, PACKED_UP, PACKED_DOWN, SIDES };
 void lend_from(enum side side, int null_when_empty);
 const uint8_t *lend(const uint8_t *bytes, size_t len);
 uint8_t *lend_filled(uint8_t fill, size_t len);

@@ -1,7 +1,8 @@
 /* Buffers lent between guards. Regions of a file in memory are mapped twice, to be written and only to be read, with
  * pages around each that are not mapped at all. A buffer lies at one end of its region, or at an odd address inside;
  * all else in the region is guard bytes. So a stray write is seen wherever it goes near the buffer, and a stray read
- * traps on one side, and on the other in the run that lends from there. */
+ * traps on one side, and on the other in the run that lends from there. Packed buffers lie side by side in one region,
+ * upwards or downwards in the order in which they are lent: copies may go by where their two ends lie. */
 #define _GNU_SOURCE
 #include <stdio.h>
 #include <stdlib.h>
@@ -26,7 +27,8 @@ struct lent {
 };
 
 static uint8_t *to_write[REGIONS][SIZES], *to_read[REGIONS][SIZES], copies[REGIONS][MOST];
-static uint8_t guards_of[3][MOST + 2 * PAGE], *guards; /* by side */
+static uint8_t guards_of[SIDES][MOST + 2 * PAGE], *guards;
+static uint8_t packed[REGIONS * MOST + 2 * PAGE], *lowest, *highest; /* what packed buffers take so far */
 static struct lent lent[REGIONS];
 static int lent_count, null_when_empty;
 static enum side side;
@@ -69,16 +71,31 @@ static void map_regions(void)
 /* Buffers lent from now on lie at that side. */
 void lend_from(enum side from, int null)
 {
-    static const uint8_t guard[3] = {0xa5, 0x3c, 0xc3};
+    static const uint8_t guard[SIDES] = {0xa5, 0x3c, 0xc3, 0x69, 0x96};
     if (!guards) {
         map_regions();
-        for (int i = 0; i < 3; i++)
+        for (int i = 0; i < SIDES; i++)
             memset(guards_of[i], guard[i], sizeof guards_of[i]);
     }
     guards = guards_of[from];
     lent_count = 0;
     side = from;
     null_when_empty = null;
+    lowest = highest = side == PACKED_UP ? packed + PAGE : packed + sizeof packed - PAGE;
+}
+
+/* The next of the packed buffers, and guard bytes on both sides of all of them. */
+static void pack(struct lent *l, size_t len)
+{
+    l->own = side == PACKED_UP ? highest : lowest - len;
+    if (side == PACKED_UP)
+        highest += len;
+    else
+        lowest -= len;
+    memcpy(lowest - PAGE, guards, PAGE);
+    memcpy(highest, guards, PAGE);
+    l->seen = l->region = l->own;
+    l->size = l->len = len;
 }
 
 static struct lent *next(size_t len, int only_read)
@@ -91,12 +108,16 @@ static struct lent *next(size_t len, int only_read)
     while (len + PAGE > region_size[j])
         j++;
     struct lent *l = &lent[i];
+    l->copy = NULL;
+    if (side >= PACKED_UP) {
+        pack(l, len);
+        return l;
+    }
     l->region = to_write[i][j];
     l->seen = only_read ? to_read[i][j] : l->region;
     l->size = region_size[j];
     l->own = l->region + (side == AT_END ? l->size - len : side == AT_START ? 0 : 33 + 2 * (size_t)i);
     l->len = len;
-    l->copy = NULL;
     memcpy(l->region, guards, (size_t)(l->own - l->region));
     memcpy(l->own + len, guards, (size_t)(l->region + l->size - l->own) - len);
     return l;
@@ -135,6 +156,8 @@ static const char *tell(const char *what, int i)
 
 const char *take_back(void)
 {
+    if (side >= PACKED_UP && (memcmp(lowest - PAGE, guards, PAGE) || memcmp(highest, guards, PAGE)))
+        return "guard bytes written around packed buffers";
     for (int i = 0; i < lent_count; i++) {
         const struct lent *l = &lent[i];
         size_t before = (size_t)(l->own - l->region);

@@ -12,7 +12,7 @@
 enum wrong {
     NOTHING, READS_PAST, READS_BEFORE, WRITES_PAST, WRITES_BEFORE, STORES_IN_CONST, WRITES_PAST_PLACES, LEAVES_A_BYTE,
     ONE_SLOT_MORE, A_ROW_AFTER, GOES_BY_BEFORE, KEEPS_STATE, EXACT_REFUSED, SHORT_ACCEPTED, TWO_FOR_ONE, THIRTEEN_FIRST,
-    OTHER_TABLE, FIFTEEN, ONE_OFF, LARGER_OTHER, LARGER_REFUSED, ODD_OTHER, WRITES_FAR, MAPS_REFUSED_CHANGES, MAPS_ONE_MORE, MAPS_OPCODE,
+    OTHER_TABLE, FIFTEEN, ONE_OFF, LARGER_OTHER, LARGER_REFUSED, ODD_OTHER, NEIGHBOUR_OTHER, WRITES_FAR, MAPS_REFUSED_CHANGES, MAPS_ONE_MORE, MAPS_OPCODE,
     MAPS_UNSAID, MAPS_DESCRIPTOR, MAPS_PART_OF_PLACE, FUNC_READS_PAST, FUNC_NOT_DIVIDED, FUNC_LEAVES_A_BYTE, LINE_ROW_AFTER,
     LINE_ELEVEN_FIRST, FUNC_PART_LONGER, LINE_PART_ON_REFUSAL, FUNC_NEXT_PART, FUNC_NUMBER_AT_COUNT, LINE_NUMBER_READS_BEFORE,
     LENGTH_IN_32_BITS, PART_IN_32_BITS, WRONGS
@@ -43,6 +43,7 @@ static const struct {
     [LARGER_OTHER] = {"link makes another image where there is more room", "larger outputs get another image"},
     [LARGER_REFUSED] = {"link answers 11 where there is more room", "larger outputs give another number"},
     [ODD_OTHER] = {"link makes another image at an odd address", "outputs filled exactly get another image"},
+    [NEIGHBOUR_OTHER] = {"link copies wrongly where the image follows the tables", "outputs filled exactly get another image"},
     [WRITES_FAR] = {"link writes 4000 bytes past the function records", "barkruffle_link: guard bytes written after buffer 8"},
     [MAPS_REFUSED_CHANGES] = {"a refused map step changes the last slot", "a refused map step changes a byte"},
     [MAPS_ONE_MORE] = {"the map step tells one relocation too many", "barkruffle_relocate_maps: other places than document 01's"},
@@ -210,6 +211,8 @@ uint32_t __wrap_barkruffle_link(LINK_PARAMETERS)
                                         image_line_info, image_line_info_len, places, places_len);
     if (shorter)
         memcpy(image_func_info, room, image_func_info_len);
+    if (wrong == NEIGHBOUR_OTHER && n == 0 && image == line_info + line_info_len)
+        image[0] ^= 1;
     stray(code, code_len, symbols, symbols_len, relocations, relocations_len, image, image_len, image_line_info, places, places_len);
     misleft(n, &o, before, places, places_len);
     return mistold(n, &o, root, functions_len / 32, places, places_len);

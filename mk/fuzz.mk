@@ -5,7 +5,7 @@
 # make fuzz-bites  the harness against wrong stand-ins of the entries, each of which it has to notice
 # make fuzz-reached  how many of the archive's instructions the seeds and some inputs reach: figures, not a test
 FUZZ_TIME ?= 120
-FUZZ_RUNS ?= 40000
+FUZZ_RUNS ?= 25000
 FUZZ_SEED ?= 1
 CLANG ?= clang
 FUZZ_OUT = target/fuzz
