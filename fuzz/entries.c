@@ -431,7 +431,8 @@ int LLVMFuzzerTestOneInput(const uint8_t *data, size_t len)
 int report(void)
 {
     int missing = 0;
-    fprintf(stderr, "fuzz: %lu raw inputs, %lu repaired, %lu generated\n", cut_by[CUT_RAW], cut_by[CUT_REPAIRED], cut_by[CUT_GENERATED]);
+    fprintf(stderr, "fuzz: %lu raw inputs, %lu repaired, %lu generated\n", cut_by[CUT_RAW], cut_by[CUT_REPAIRED],
+            cut_by[CUT_GENERATED]);
     for (int e = 0; e < ENTRIES; e++) {
         fprintf(stderr, "fuzz: %s:", entries[e].name);
         for (unsigned n = 0; n < NUMBERS; n++)

@@ -179,7 +179,8 @@ const char *trapped_at(const void *address)
     for (int i = 0; i < lent_count; i++) {
         const uint8_t *start = lent[i].seen, *end = start + lent[i].size;
         if (p >= start - GAP / 2 && p < end + GAP / 2)
-            return tell(p < start ? "trapped: an access before" : p >= end ? "trapped: an access past" : "trapped: a write to the read-only", i);
+            return tell(p < start ? "trapped: an access before" : p >= end ? "trapped: an access past"
+                                                                          : "trapped: a write to the read-only", i);
     }
     return "trapped: an access to no buffer that is lent";
 }

@@ -12,7 +12,8 @@
 enum wrong {
     NOTHING, READS_PAST, READS_BEFORE, WRITES_PAST, WRITES_BEFORE, STORES_IN_CONST, WRITES_PAST_PLACES, LEAVES_A_BYTE,
     ONE_SLOT_MORE, A_ROW_AFTER, GOES_BY_BEFORE, KEEPS_STATE, EXACT_REFUSED, SHORT_ACCEPTED, TWO_FOR_ONE, THIRTEEN_FIRST,
-    OTHER_TABLE, FIFTEEN, ONE_OFF, LARGER_OTHER, LARGER_REFUSED, ODD_OTHER, NEIGHBOUR_OTHER, WRITES_FAR, MAPS_REFUSED_CHANGES, MAPS_ONE_MORE, MAPS_OPCODE,
+    OTHER_TABLE, FIFTEEN, ONE_OFF, LARGER_OTHER, LARGER_REFUSED, ODD_OTHER, NEIGHBOUR_OTHER, WRITES_FAR,
+    MAPS_REFUSED_CHANGES, MAPS_ONE_MORE, MAPS_OPCODE,
     MAPS_UNSAID, MAPS_DESCRIPTOR, MAPS_PART_OF_PLACE, FUNC_READS_PAST, FUNC_NOT_DIVIDED, FUNC_LEAVES_A_BYTE, LINE_ROW_AFTER,
     LINE_ELEVEN_FIRST, FUNC_PART_LONGER, LINE_PART_ON_REFUSAL, FUNC_NEXT_PART, FUNC_NUMBER_AT_COUNT, LINE_NUMBER_READS_BEFORE,
     LENGTH_IN_32_BITS, PART_IN_32_BITS, WRONGS
@@ -26,7 +27,8 @@ static const struct {
     [READS_BEFORE] = {"link reads a byte before the symbols", "barkruffle_link: trapped: an access before buffer 1"},
     [WRITES_PAST] = {"link writes a byte past the image", "barkruffle_link: guard bytes written after buffer 7"},
     [WRITES_BEFORE] = {"link writes a byte before the line records", "barkruffle_link: guard bytes written before buffer 9"},
-    [STORES_IN_CONST] = {"link stores into table 1 what stands there", "barkruffle_link: trapped: a write to the read-only buffer 0"},
+    [STORES_IN_CONST] = {"link stores into table 1 what stands there",
+                         "barkruffle_link: trapped: a write to the read-only buffer 0"},
     [WRITES_PAST_PLACES] = {"link writes a byte past the places", "barkruffle_link: trapped: an access past buffer 10"},
     [LEAVES_A_BYTE] = {"a refused link leaves the last line record's last byte", "a refused link leaves a byte"},
     [ONE_SLOT_MORE] = {"link tells one slot too many", "barkruffle_link: an image"},
@@ -34,8 +36,10 @@ static const struct {
     [GOES_BY_BEFORE] = {"link goes by what the image held before", "barkruffle_link: called twice, other bytes"},
     [KEEPS_STATE] = {"link tells other places at every other call", "barkruffle_link: called twice, other places"},
     [EXACT_REFUSED] = {"link wants a byte more than it needs", "an image is refused outputs that it fills exactly"},
-    [SHORT_ACCEPTED] = {"link accepts a function record output that is a byte short", "an image is accepted in an output that is too short"},
-    [TWO_FOR_ONE] = {"link looks for broken rows before it counts rows", "1 is not told exactly where a table has too many rows"},
+    [SHORT_ACCEPTED] = {"link accepts a function record output that is a byte short",
+                        "an image is accepted in an output that is too short"},
+    [TWO_FOR_ONE] = {"link looks for broken rows before it counts rows",
+                     "1 is not told exactly where a table has too many rows"},
     [THIRTEEN_FIRST] = {"link looks at the root first", "barkruffle_link: another number than document 01's"},
     [OTHER_TABLE] = {"link tells a later table with too many rows", "1 does not name the first table with too many rows"},
     [FIFTEEN] = {"link answers 15", "barkruffle_link: a number that the header does not give it"},
@@ -46,21 +50,26 @@ static const struct {
     [NEIGHBOUR_OTHER] = {"link copies wrongly where the image follows the tables", "outputs filled exactly get another image"},
     [WRITES_FAR] = {"link writes 4000 bytes past the function records", "barkruffle_link: guard bytes written after buffer 8"},
     [MAPS_REFUSED_CHANGES] = {"a refused map step changes the last slot", "a refused map step changes a byte"},
-    [MAPS_ONE_MORE] = {"the map step tells one relocation too many", "barkruffle_relocate_maps: other places than document 01's"},
+    [MAPS_ONE_MORE] = {"the map step tells one relocation too many",
+                       "barkruffle_relocate_maps: other places than document 01's"},
     [MAPS_OPCODE] = {"the map step changes an opcode", "a map step changes more than it may"},
     [MAPS_UNSAID] = {"the map step changes a slot and tells none", "a map step changes more slots than it says"},
     [MAPS_DESCRIPTOR] = {"the map step stores another descriptor", "barkruffle_relocate_maps: other bytes than document 01's"},
     [MAPS_PART_OF_PLACE] = {"the map step writes a part of a place", "not zero after the places that fit whole"},
-    [FUNC_READS_PAST] = {"the function reader reads a byte past its data", "barkruffle_func_info: trapped: an access past buffer 0"},
+    [FUNC_READS_PAST] = {"the function reader reads a byte past its data",
+                         "barkruffle_func_info: trapped: an access past buffer 0"},
     [FUNC_NOT_DIVIDED] = {"the function reader keeps byte offsets", "barkruffle_func_info: other bytes than document 01's"},
     [FUNC_LEAVES_A_BYTE] = {"a refused function reader leaves a byte", "barkruffle_func_info: a refused reader leaves a byte"},
     [LINE_ROW_AFTER] = {"the line reader writes a byte after its rows", "barkruffle_line_info: not zero after the rows"},
     [LINE_ELEVEN_FIRST] = {"the line reader tells 11 before 14", "barkruffle_line_info: another number than document 01's"},
     [FUNC_PART_LONGER] = {"a function record's part is a byte longer", "barkruffle_func_info_record: a"},
     [LINE_PART_ON_REFUSAL] = {"a refused line record gives a part", "barkruffle_line_info_record: a part that is not"},
-    [FUNC_NEXT_PART] = {"the part of function record 0 is that of record 1", "barkruffle_func_info_record: another part than document 01's"},
-    [FUNC_NUMBER_AT_COUNT] = {"the record at the count is told as done", "barkruffle_func_info_record_number: the number of a record is not its part's"},
-    [LINE_NUMBER_READS_BEFORE] = {"a record's number reads before the data", "barkruffle_line_info_record_number: trapped: an access before buffer 0"},
+    [FUNC_NEXT_PART] = {"the part of function record 0 is that of record 1",
+                        "barkruffle_func_info_record: another part than document 01's"},
+    [FUNC_NUMBER_AT_COUNT] = {"the record at the count is told as done",
+                              "barkruffle_func_info_record_number: the number of a record is not its part's"},
+    [LINE_NUMBER_READS_BEFORE] = {"a record's number reads before the data",
+                                  "barkruffle_line_info_record_number: trapped: an access before buffer 0"},
     [LENGTH_IN_32_BITS] = {"link takes the low 32 bits of a length", "barkruffle_link: a length past 32 bits is not 1"},
     [PART_IN_32_BITS] = {"a part starts at the low 32 bits of its place", "barkruffle_line_info_record: data past 32 bits"},
 };
@@ -198,7 +207,7 @@ static void misleft(uint32_t n, const struct outputs *o, uint8_t before, const u
 
 uint32_t __wrap_barkruffle_link(LINK_PARAMETERS)
 {
-    static uint8_t room[BARKRUFFLE_IMAGE_FUNC_INFO];
+    static uint8_t room[MOST + 1];
     struct outputs o = {{image, image_func_info, image_line_info}, {image_len, image_func_info_len, image_line_info_len}};
     uint8_t before = image_len ? image[0] : 0;
     if (wrong == LENGTH_IN_32_BITS)
@@ -207,7 +216,7 @@ uint32_t __wrap_barkruffle_link(LINK_PARAMETERS)
     uint32_t n = __real_barkruffle_link(code, code_len, symbols, symbols_len, functions, functions_len, relocations,
                                         relocations_len, instructions, instructions_len, func_info, func_info_len, line_info,
                                         line_info_len, root, image, image_len, shorter ? room : image_func_info,
-                                        shorter && image_func_info_len < sizeof room ? image_func_info_len + 1 : image_func_info_len,
+                                        image_func_info_len + (size_t)shorter,
                                         image_line_info, image_line_info_len, places, places_len);
     if (shorter)
         memcpy(image_func_info, room, image_func_info_len);
