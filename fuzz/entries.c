@@ -8,13 +8,15 @@
 #include <string.h>
 #include "fuzz.h"
 
-enum { MAPS, LINK, FUNC, LINE, FUNC_RECORD, LINE_RECORD, FUNC_NUMBER, LINE_NUMBER, ENTRIES };
+enum { MAPS, LINK, LINK_ROWS, FUNC, LINE, FUNC_RECORD, LINE_RECORD, FUNC_NUMBER, LINE_NUMBER, ENTRIES };
 
-#define NUMBERS 15
-#define BIT(n) (1u << (n))
+#define NUMBERS 33
+#define BIT(n) ((uint64_t)1 << (n))
+#define LINK_NUMBERS (0xf | BIT(6) | BIT(8) | BIT(9) | BIT(10) | BIT(11) | BIT(12) | BIT(13))
 
 static void try_maps(struct input *in);
 static void try_link(struct input *in);
+static void try_link_rows(struct input *in);
 static void try_func_rows(struct input *in);
 static void try_line_rows(struct input *in);
 static void try_func_record(struct input *in);
@@ -25,11 +27,12 @@ static void try_line_number(struct input *in);
 /* The map step is tried first: a link may take what it made of table 6. A record's part counts as 0, no part as 14. */
 static const struct entry {
     const char *name;
-    unsigned numbers;
+    uint64_t numbers;
     void (*try)(struct input *in);
 } entries[ENTRIES] = {
     [MAPS] = {"barkruffle_relocate_maps", 0xff, try_maps},
-    [LINK] = {"barkruffle_link", 0xf | BIT(6) | BIT(8) | BIT(9) | BIT(10) | BIT(11) | BIT(12) | BIT(13), try_link},
+    [LINK] = {"barkruffle_link", LINK_NUMBERS, try_link},
+    [LINK_ROWS] = {"barkruffle_link_rows", LINK_NUMBERS | BIT(BARKRUFFLE_SHORT_SCRATCH), try_link_rows},
     [FUNC] = {"barkruffle_func_info", BIT(0) | BIT(11) | BIT(14), try_func_rows},
     [LINE] = {"barkruffle_line_info", BIT(0) | BIT(11) | BIT(14), try_line_rows},
     [FUNC_RECORD] = {"barkruffle_func_info_record", BIT(0) | BIT(14), try_func_record},
@@ -45,7 +48,7 @@ static int now; /* the entry that is tried */
 #ifdef FUZZING_BUILD_MODE_UNSAFE_FOR_PRODUCTION
 __attribute__((section("__libfuzzer_extra_counters")))
 #endif
-static uint8_t seen[1 << 14];
+static uint8_t seen[1 << 15];
 
 static void finding(const char *what)
 {
@@ -66,7 +69,8 @@ static void hold(int holds, const char *what)
         finding(what);
 }
 
-static int all_zero(const uint8_t *p, size_t n) { return n == 0 || (p[0] == 0 && memcmp(p, p + 1, n - 1) == 0); }
+static int all_are(const uint8_t *p, size_t n, uint8_t v) { return n == 0 || (p[0] == v && memcmp(p, p + 1, n - 1) == 0); }
+static int all_zero(const uint8_t *p, size_t n) { return all_are(p, n, 0); }
 static int same(const uint8_t *p, const uint8_t *q, size_t n) { return n == 0 || memcmp(p, q, n) == 0; }
 
 /* One way to make a call: where buffers lie, what the outputs held before, and the length of the places. */
@@ -82,7 +86,7 @@ static const struct round others[3] = {{AT_ODD, 0x96, 0}, {PACKED_UP, 0x69, 0}, 
 /* What a call left. */
 struct left {
     struct answer answer;
-    uint8_t places[24], out[3][MOST];
+    uint8_t places[24], out[3][MOST], scratch[MOST];
 };
 
 static struct left one, two, other;
@@ -92,7 +96,7 @@ static void open_round(const struct round *r) { lend_from(r->side, r->side == AT
 
 static void count(struct answer a)
 {
-    uint32_t h = (uint32_t)now * 16 + a.number;
+    uint32_t h = (uint32_t)now * 16 + (a.number < 15 ? a.number : 15);
     reached[now][a.number]++;
     for (int i = 0; i < 2; i++)
         h = h * 12 + (a.places[i] < 10 ? a.places[i] : a.places[i] < 100 ? 10 : 11);
@@ -219,29 +223,49 @@ static void try_maps(struct input *in)
 
 static const size_t row_out[3] = {8, 8, 16}, most_out[3] = {4096, 256, 4096};
 
-static void link_once(const struct input *in, const size_t *out_len, struct round r, size_t places_len, struct left *got)
+/* The scratch of a call of barkruffle_link, which has none. */
+#define NO_SCRATCH SIZE_MAX
+
+/* With a scratch it is barkruffle_link_rows, and the scratch lies beside the rows that are laid into it. */
+static void link_by(const struct input *in, const size_t *out_len, struct round r, size_t places_len, size_t scratch_len,
+                    struct left *got)
 {
+    const struct bytes *b = in->table;
     const uint8_t *t[9];
-    uint8_t *out[3];
+    const struct barkruffle_symbol *rows = NULL;
+    uint8_t *out[3], *scratch = NULL;
+    int by_rows = scratch_len != NO_SCRATCH;
     r.places_len = places_len;
     open_round(&r);
     for (int i = 1; i <= 8; i++)
-        if (i != 5)
-            t[i] = i > 6 && in->shared ? t[6] : lend(in->table[i].at, in->table[i].len);
+        if (i == 2 && by_rows) {
+            scratch = lend_filled(r.before, scratch_len);
+            rows = lend_rows(b[2].at, b[2].len);
+        } else if (i != 5)
+            t[i] = i > 6 && in->shared ? t[6] : lend(b[i].at, b[i].len);
     for (int i = 0; i < 3; i++)
         out[i] = lend_filled(r.before, out_len[i]);
     uint8_t *places = lend_filled(r.before, places_len);
-    uint32_t number = barkruffle_link(t[1], in->table[1].len, t[2], in->table[2].len, t[3], in->table[3].len, t[4],
-                                      in->table[4].len, t[6], in->table[6].len, t[7], in->table[7].len, t[8],
-                                      in->table[8].len, in->root, out[0], out_len[0], out[1], out_len[1], out[2], out_len[2],
-                                      places, places_len);
+    uint32_t number =
+        by_rows ? barkruffle_link_rows(t[1], b[1].len, rows, b[2].len / sizeof *rows, t[3], b[3].len, t[4], b[4].len, t[6],
+                                       b[6].len, t[7], b[7].len, t[8], b[8].len, in->root, out[0], out_len[0], out[1],
+                                       out_len[1], out[2], out_len[2], places, places_len, scratch, scratch_len)
+                : barkruffle_link(t[1], b[1].len, t[2], b[2].len, t[3], b[3].len, t[4], b[4].len, t[6], b[6].len, t[7],
+                                  b[7].len, t[8], b[8].len, in->root, out[0], out_len[0], out[1], out_len[1], out[2],
+                                  out_len[2], places, places_len);
     for (int i = 0; i < 3; i++)
         if (out_len[i])
             memcpy(got->out[i], out[i], out_len[i]);
+    if (by_rows && scratch_len)
+        memcpy(got->scratch, scratch, scratch_len);
     close_round(&r, number, places, got);
-    if (number)
-        for (int i = 0; i < 3; i++)
-            hold(all_zero(got->out[i], out_len[i]), "a refused link leaves a byte");
+    for (int i = 0; i < 3 && number; i++)
+        hold(all_zero(got->out[i], out_len[i]), "a refused link leaves a byte");
+}
+
+static void link_once(const struct input *in, const size_t *out_len, struct round r, size_t places_len, struct left *got)
+{
+    link_by(in, out_len, r, places_len, NO_SCRATCH, got);
 }
 
 /* An accepted image: its counts fit, and zero follows. */
@@ -316,6 +340,82 @@ static void try_link(struct input *in)
     for (int i = 0; i < 3; i++)
         hold(same(two.out[i], want[i], in->out_len[i]), "other bytes than document 01's");
     count(two.answer);
+}
+
+/* ---- the link with rows */
+
+/* What the rows take of a scratch, and so what it needs. */
+static size_t laid(const struct input *in)
+{
+    return in->table[2].len < BARKRUFFLE_SCRATCH ? in->table[2].len : BARKRUFFLE_SCRATCH;
+}
+
+/* A scratch that is long enough, by `more` bytes too long: the rows in it, and as it was after them. */
+static void rows_once(const struct input *in, struct round r, size_t places_len, size_t more, struct left *got)
+{
+    link_by(in, in->out_len, r, places_len, laid(in) + more, got);
+    hold(got->answer.number != BARKRUFFLE_SHORT_SCRATCH, "a scratch that is long enough is refused");
+    hold(same(got->scratch, in->table[2].at, laid(in)), "the scratch does not start with the rows");
+    hold(all_are(got->scratch + laid(in), more, r.before), "the scratch is written after the rows");
+}
+
+/* The same as barkruffle_link over the rows' bytes. */
+static void as_link(const struct input *in, const struct left *got)
+{
+    link_once(in, in->out_len, again, BARKRUFFLE_PLACES, &other);
+    hold(got->answer.number == other.answer.number, "another number than barkruffle_link's");
+    hold(memcmp(got->answer.places, other.answer.places, sizeof other.answer.places) == 0, "other places than barkruffle_link's");
+    for (int i = 0; i < 3; i++)
+        hold(same(got->out[i], other.out[i], in->out_len[i]), "other bytes than barkruffle_link's");
+}
+
+static void rows_as_model(const struct input *in, size_t scratch_len, const struct left *got)
+{
+    static uint8_t want[3][MOST];
+    uint8_t *const outs[3] = {want[0], want[1], want[2]};
+    as_model(got, model_link_rows(in->table, in->root, in->out_len, outs, scratch_len));
+    for (int i = 0; i < 3; i++)
+        hold(same(got->out[i], want[i], in->out_len[i]), "other bytes than document 01's");
+}
+
+/* A scratch that is too short, which is told whatever else is wrong. */
+static void short_once(const struct input *in, struct round r, size_t places_len, size_t len)
+{
+    link_by(in, in->out_len, r, places_len, len, &other);
+    hold(other.answer.number == BARKRUFFLE_SHORT_SCRATCH, "a scratch that is too short is not refused with 32");
+    hold(all_zero(other.places, places_len), "a place is told with 32");
+    hold(all_are(other.scratch, len, r.before), "a scratch that is too short is written");
+    rows_as_model(in, len, &other);
+    count(other.answer);
+}
+
+/* A slice of rows has no partial row: one that table 2 ends with is left away. */
+static void try_link_rows(struct input *in)
+{
+    in->table[2].len -= in->table[2].len % sizeof(struct barkruffle_symbol);
+    rows_once(in, first, in->places_len, 0, &one);
+    rows_once(in, again, BARKRUFFLE_PLACES, 0, &two);
+    same_answer(&one, in->places_len, &two);
+    for (int i = 0; i < 3; i++)
+        hold(same(one.out[i], two.out[i], in->out_len[i]), "called twice, other bytes");
+    for (int r = 0; r < 3; r++) {
+        rows_once(in, others[r], BARKRUFFLE_PLACES, (size_t)r * (in->k % 60), &other);
+        same_answer(&other, BARKRUFFLE_PLACES, &two);
+        for (int i = 0; i < 3; i++)
+            hold(same(other.out[i], two.out[i], in->out_len[i]), "called elsewhere, other bytes");
+    }
+    plain_rules(in, 8, 5, &two.answer);
+    if (two.answer.number == 0)
+        is_image(in->out_len, &two);
+    as_link(in, &two);
+    rows_as_model(in, laid(in), &two);
+    count(two.answer);
+    if (laid(in)) {
+        short_once(in, first, in->places_len, laid(in) - 1);
+        short_once(in, again, BARKRUFFLE_PLACES, in->k % laid(in));
+        for (int r = 0; r < 3; r++)
+            short_once(in, others[r], BARKRUFFLE_PLACES, laid(in) - 1);
+    }
 }
 
 /* ---- the readers */

@@ -44,6 +44,8 @@ uint32_t u32_at(const uint8_t *p);
 uint64_t u64_at(const uint8_t *p);
 struct answer model_maps(const struct bytes *table, uint8_t *instructions);
 struct answer model_link(const struct bytes *table, uint32_t root, const size_t *out_len, uint8_t *const *out);
+struct answer model_link_rows(const struct bytes *table, uint32_t root, const size_t *out_len, uint8_t *const *out,
+                              size_t scratch_len);
 struct answer model_read(size_t row, uint32_t size, uint32_t count, const struct bytes *data, uint8_t *out, size_t out_len);
 struct answer model_record(size_t row, uint32_t size, uint32_t count, const struct bytes *data, uint32_t k);
 
@@ -53,6 +55,7 @@ struct answer model_record(size_t row, uint32_t size, uint32_t count, const stru
 enum side { AT_END, AT_START, AT_ODD, PACKED_UP, PACKED_DOWN, SIDES };
 void lend_from(enum side side, int null_when_empty);
 const uint8_t *lend(const uint8_t *bytes, size_t len);
+const struct barkruffle_symbol *lend_rows(const uint8_t *bytes, size_t len); /* at a multiple of 8 */
 uint8_t *lend_filled(uint8_t fill, size_t len);
 uint8_t *lend_to_write(const uint8_t *bytes, size_t len);
 const char *take_back(void); /* what was found wrong, or NULL */

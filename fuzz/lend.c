@@ -2,7 +2,8 @@
  * pages around each that are not mapped at all. A buffer lies at one end of its region, or at an odd address inside;
  * all else in the region is guard bytes. So a stray write is seen wherever it goes near the buffer, and a stray read
  * traps on one side, and on the other in the run that lends from there. Packed buffers lie side by side in one region,
- * upwards or downwards in the order in which they are lent: copies may go by where their two ends lie. */
+ * upwards or downwards in the order in which they are lent: copies may go by where their two ends lie. Rows lie at a
+ * multiple of 8, never of 16 where bytes lie at an odd address; guard bytes fill what that leaves between packed buffers. */
 #define _GNU_SOURCE
 #include <stdio.h>
 #include <stdlib.h>
@@ -28,7 +29,7 @@ struct lent {
 
 static uint8_t *to_write[REGIONS][SIZES], *to_read[REGIONS][SIZES], copies[REGIONS][MOST];
 static uint8_t guards_of[SIDES][MOST + 2 * PAGE], *guards;
-static uint8_t packed[REGIONS * MOST + 2 * PAGE], *lowest, *highest; /* what packed buffers take so far */
+static uint8_t packed[REGIONS * (MOST + 8) + 2 * PAGE], *lowest, *highest; /* what packed buffers take so far */
 static struct lent lent[REGIONS];
 static int lent_count, null_when_empty;
 static enum side side;
@@ -84,24 +85,39 @@ void lend_from(enum side from, int null)
     lowest = highest = side == PACKED_UP ? packed + PAGE : packed + sizeof packed - PAGE;
 }
 
-/* The next of the packed buffers, and guard bytes on both sides of all of them. */
-static void pack(struct lent *l, size_t len)
+/* The next of the packed buffers, and guard bytes on both sides of all of them. What lies before it or after it up to
+ * its neighbour, because of its alignment, belongs to its region. */
+static void pack(struct lent *l, size_t len, size_t align)
 {
-    l->own = side == PACKED_UP ? highest : lowest - len;
-    if (side == PACKED_UP)
-        highest += len;
-    else
-        lowest -= len;
+    uint8_t *start = highest, *end = lowest;
+    if (side == PACKED_UP) {
+        l->region = start;
+        l->own = start + (align - (uintptr_t)start % align) % align;
+        highest = end = l->own + len;
+    } else {
+        l->region = l->own = end - len - (uintptr_t)(end - len) % align;
+        lowest = l->own;
+    }
     memcpy(lowest - PAGE, guards, PAGE);
     memcpy(highest, guards, PAGE);
-    l->seen = l->region = l->own;
-    l->size = l->len = len;
+    l->seen = l->region;
+    l->size = (size_t)(end - l->region);
+    l->len = len;
 }
 
-static struct lent *next(size_t len, int only_read)
+/* Where a buffer lies in its region, when not packed. */
+static size_t offset_in(const struct lent *l, size_t len, size_t align)
 {
-    if (lent_count == REGIONS || len > MOST) {
-        fprintf(stderr, "fuzz: too much lent\n");
+    size_t i = (size_t)(l - lent);
+    if (side == AT_ODD)
+        return align == 1 ? 33 + 2 * i : align * (2 * i + 5);
+    return side == AT_END ? l->size - len : 0;
+}
+
+static struct lent *next(size_t len, size_t align, int only_read)
+{
+    if (lent_count == REGIONS || len > MOST || len % align) {
+        fprintf(stderr, "fuzz: too much lent, or a part of a row\n");
         exit(2);
     }
     int i = lent_count++, j = 0;
@@ -109,15 +125,15 @@ static struct lent *next(size_t len, int only_read)
         j++;
     struct lent *l = &lent[i];
     l->copy = NULL;
-    if (side >= PACKED_UP) {
-        pack(l, len);
-        return l;
+    if (side >= PACKED_UP)
+        pack(l, len, align);
+    else {
+        l->region = to_write[i][j];
+        l->seen = only_read ? to_read[i][j] : l->region;
+        l->size = region_size[j];
+        l->own = l->region + offset_in(l, len, align);
+        l->len = len;
     }
-    l->region = to_write[i][j];
-    l->seen = only_read ? to_read[i][j] : l->region;
-    l->size = region_size[j];
-    l->own = l->region + (side == AT_END ? l->size - len : side == AT_START ? 0 : 33 + 2 * (size_t)i);
-    l->len = len;
     memcpy(l->region, guards, (size_t)(l->own - l->region));
     memcpy(l->own + len, guards, (size_t)(l->region + l->size - l->own) - len);
     return l;
@@ -125,25 +141,32 @@ static struct lent *next(size_t len, int only_read)
 
 static uint8_t *lent_to_write(const struct lent *l) { return l->len == 0 && null_when_empty ? NULL : l->own; }
 
-const uint8_t *lend(const uint8_t *bytes, size_t len)
+static const uint8_t *lend_aligned(const uint8_t *bytes, size_t len, size_t align)
 {
-    struct lent *l = next(len, 1);
+    struct lent *l = next(len, align, 1);
     l->copy = copies[l - lent];
     memcpy(copies[l - lent], bytes, len);
     memcpy(l->own, bytes, len);
     return len == 0 && null_when_empty ? NULL : l->seen + (l->own - l->region);
 }
 
+const uint8_t *lend(const uint8_t *bytes, size_t len) { return lend_aligned(bytes, len, 1); }
+
+const struct barkruffle_symbol *lend_rows(const uint8_t *bytes, size_t len)
+{
+    return (const void *)lend_aligned(bytes, len, _Alignof(struct barkruffle_symbol));
+}
+
 uint8_t *lend_to_write(const uint8_t *bytes, size_t len)
 {
-    struct lent *l = next(len, 0);
+    struct lent *l = next(len, 1, 0);
     memcpy(l->own, bytes, len);
     return lent_to_write(l);
 }
 
 uint8_t *lend_filled(uint8_t fill, size_t len)
 {
-    struct lent *l = next(len, 0);
+    struct lent *l = next(len, 1, 0);
     memset(l->own, fill, len);
     return lent_to_write(l);
 }

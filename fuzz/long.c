@@ -1,5 +1,6 @@
 /* Lengths past 32 bits, once in each run: memory that is all zero and takes no room, 2^32 bytes and some more, lent as each
- * table in turn and as the readers' data. A length or a product cut to 32 bits would be taken for a small one. */
+ * table in turn, as the readers' data and as the scratch; and 2^32 rows. A length, a count or a product cut to 32 bits would
+ * be taken for a small one. */
 #define _GNU_SOURCE
 #include <stdio.h>
 #include <stdlib.h>
@@ -11,6 +12,9 @@
 #define SIZE 65544u
 #define COUNT 65536u
 #define LONG ((size_t)SIZE * COUNT)
+/* The fewest rows of 24 bytes that take more than 2^32: 8 bytes, by the low 32 bits. And 2^32 rows: none, by those. */
+#define LONG_ROWS ((((size_t)1 << 32) + 23) / 24)
+#define MANY_ROWS ((size_t)1 << 32)
 
 static void hold(int holds, const char *entry, const char *what)
 {
@@ -45,6 +49,29 @@ static void long_tables(const uint8_t *zeros)
     }
 }
 
+/* `count` rows, all zero, and no other table. */
+static int is_rows_answer(const uint8_t *zeros, size_t count, uint8_t *scratch, size_t scratch_len, uint32_t want, uint32_t a)
+{
+    uint8_t places[BARKRUFFLE_PLACES], out[3][16];
+    memset(out, 0x5a, sizeof out);
+    uint32_t number = barkruffle_link_rows(NULL, 0, (const void *)zeros, count, NULL, 0, NULL, 0, NULL, 0, NULL, 0, NULL, 0, 0,
+                                           out[0], 16, out[1], 16, out[2], 16, places, sizeof places, scratch, scratch_len);
+    return is_answer(number, places, want, a) && out[0][0] == 0 && memcmp(out[0], out[0] + 1, sizeof out - 1) == 0;
+}
+
+/* Only the start of the long scratch can be written. */
+static void long_rows(const uint8_t *zeros, const uint8_t *many, uint8_t *scratch)
+{
+    static uint8_t enough[BARKRUFFLE_SCRATCH];
+    hold(is_rows_answer(zeros, LONG_ROWS, enough, 8, 32, 0) &&
+         is_rows_answer(zeros, LONG_ROWS, enough, sizeof enough - 1, 32, 0) &&
+         is_rows_answer(zeros, LONG_ROWS, enough, sizeof enough, 1, 2),
+         "barkruffle_link_rows", "rows of more bytes than 32 bits tell");
+    hold(is_rows_answer(many, MANY_ROWS, enough, 0, 32, 0) && is_rows_answer(many, MANY_ROWS, enough, sizeof enough, 1, 2),
+         "barkruffle_link_rows", "a count past 32 bits");
+    hold(is_rows_answer(zeros, 1, scratch, (size_t)1 << 32, 13, 0), "barkruffle_link_rows", "a scratch past 32 bits");
+}
+
 static int is_part(struct barkruffle_part p, uint64_t at, uint64_t len) { return p.at == at && p.len == len; }
 
 static void long_data(const uint8_t *zeros)
@@ -70,14 +97,27 @@ static void long_data(const uint8_t *zeros)
          "barkruffle_line_info_record_number", "data past 32 bits");
 }
 
+static uint8_t *map_zeros(size_t len)
+{
+    uint8_t *zeros = mmap(NULL, len, PROT_READ, MAP_PRIVATE | MAP_ANONYMOUS | MAP_NORESERVE, -1, 0);
+    if (zeros == MAP_FAILED)
+        perror("fuzz: lengths past 32 bits are left out: mmap");
+    return zeros;
+}
+
 void try_long(void)
 {
-    uint8_t *zeros = mmap(NULL, LONG, PROT_READ, MAP_PRIVATE | MAP_ANONYMOUS | MAP_NORESERVE, -1, 0);
-    if (zeros == MAP_FAILED) {
-        perror("fuzz: lengths past 32 bits are left out: mmap");
+    uint8_t *zeros = map_zeros(LONG);
+    if (zeros == MAP_FAILED)
         return;
-    }
     long_tables(zeros);
     long_data(zeros);
+    uint8_t *many = map_zeros(MANY_ROWS * sizeof(struct barkruffle_symbol)), *scratch = map_zeros(LONG);
+    if (many != MAP_FAILED && scratch != MAP_FAILED && mprotect(scratch, 4096, PROT_READ | PROT_WRITE) == 0)
+        long_rows(zeros, many, scratch);
+    if (many != MAP_FAILED)
+        munmap(many, MANY_ROWS * sizeof(struct barkruffle_symbol));
+    if (scratch != MAP_FAILED)
+        munmap(scratch, LONG);
     munmap(zeros, LONG);
 }

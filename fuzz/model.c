@@ -395,6 +395,19 @@ struct answer model_link(const struct bytes *table, uint32_t root, const size_t 
     return l.refusal;
 }
 
+/* The link with table 2 lent as rows: 32 before all else where a scratch has no room for them, or for one more than table 2
+ * may have. */
+struct answer model_link_rows(const struct bytes *table, uint32_t root, const size_t *out_len, uint8_t *const *out,
+                              size_t scratch_len)
+{
+    size_t rows = rows_of(table, 2) > most_rows[2] + 1 ? most_rows[2] + 1 : rows_of(table, 2);
+    if (scratch_len >= rows * row_size[2])
+        return model_link(table, root, out_len, out);
+    for (int i = 0; i < 3; i++)
+        memset(out[i], 0, out_len[i]);
+    return answer(BARKRUFFLE_SHORT_SCRATCH, 0, 0);
+}
+
 /* ---- the readers: rows of 8 bytes are function records, of 16 line records */
 
 static int broken_info(size_t row, uint32_t size, uint32_t count, const struct bytes *data)
