@@ -59,17 +59,22 @@ static int is_rows_answer(const uint8_t *zeros, size_t count, uint8_t *scratch, 
     return is_answer(number, places, want, a) && out[0][0] == 0 && memcmp(out[0], out[0] + 1, sizeof out - 1) == 0;
 }
 
-/* Only the start of the long scratch can be written. */
-static void long_rows(const uint8_t *zeros, const uint8_t *many, uint8_t *scratch)
+/* Only the start of the scratch can be written. */
+static void long_rows(const uint8_t *zeros, uint8_t *scratch)
 {
     static uint8_t enough[BARKRUFFLE_SCRATCH];
     hold(is_rows_answer(zeros, LONG_ROWS, enough, 8, 32, 0) &&
          is_rows_answer(zeros, LONG_ROWS, enough, sizeof enough - 1, 32, 0) &&
          is_rows_answer(zeros, LONG_ROWS, enough, sizeof enough, 1, 2),
          "barkruffle_link_rows", "rows of more bytes than 32 bits tell");
-    hold(is_rows_answer(many, MANY_ROWS, enough, 0, 32, 0) && is_rows_answer(many, MANY_ROWS, enough, sizeof enough, 1, 2),
-         "barkruffle_link_rows", "a count past 32 bits");
     hold(is_rows_answer(zeros, 1, scratch, (size_t)1 << 32, 13, 0), "barkruffle_link_rows", "a scratch past 32 bits");
+}
+
+static void many_rows(const uint8_t *zeros)
+{
+    static uint8_t enough[BARKRUFFLE_SCRATCH];
+    hold(is_rows_answer(zeros, MANY_ROWS, enough, 0, 32, 0) && is_rows_answer(zeros, MANY_ROWS, enough, sizeof enough, 1, 2),
+         "barkruffle_link_rows", "a count past 32 bits");
 }
 
 static int is_part(struct barkruffle_part p, uint64_t at, uint64_t len) { return p.at == at && p.len == len; }
@@ -97,27 +102,32 @@ static void long_data(const uint8_t *zeros)
          "barkruffle_line_info_record_number", "data past 32 bits");
 }
 
-static uint8_t *map_zeros(size_t len)
+/* Zeros of which the first `writable` bytes can be written, or NULL, which is told. */
+static uint8_t *map_zeros(size_t len, size_t writable)
 {
     uint8_t *zeros = mmap(NULL, len, PROT_READ, MAP_PRIVATE | MAP_ANONYMOUS | MAP_NORESERVE, -1, 0);
-    if (zeros == MAP_FAILED)
-        perror("fuzz: lengths past 32 bits are left out: mmap");
-    return zeros;
+    if (zeros != MAP_FAILED && mprotect(zeros, writable, PROT_READ | PROT_WRITE) == 0)
+        return zeros;
+    fprintf(stderr, "fuzz: what takes %zu bytes of zeros is left out\n", len);
+    return NULL;
 }
 
 void try_long(void)
 {
-    uint8_t *zeros = map_zeros(LONG);
-    if (zeros == MAP_FAILED)
-        return;
-    long_tables(zeros);
-    long_data(zeros);
-    uint8_t *many = map_zeros(MANY_ROWS * sizeof(struct barkruffle_symbol)), *scratch = map_zeros(LONG);
-    if (many != MAP_FAILED && scratch != MAP_FAILED && mprotect(scratch, 4096, PROT_READ | PROT_WRITE) == 0)
-        long_rows(zeros, many, scratch);
-    if (many != MAP_FAILED)
-        munmap(many, MANY_ROWS * sizeof(struct barkruffle_symbol));
-    if (scratch != MAP_FAILED)
+    const size_t many = MANY_ROWS * sizeof(struct barkruffle_symbol);
+    uint8_t *zeros = map_zeros(LONG, 0), *scratch = map_zeros(LONG, 4096), *rows = map_zeros(many, 0);
+    if (zeros) {
+        long_tables(zeros);
+        long_data(zeros);
+    }
+    if (zeros && scratch)
+        long_rows(zeros, scratch);
+    if (rows) {
+        many_rows(rows);
+        munmap(rows, many);
+    }
+    if (scratch)
         munmap(scratch, LONG);
-    munmap(zeros, LONG);
+    if (zeros)
+        munmap(zeros, LONG);
 }
