@@ -1,0 +1,21 @@
+-- The last copy that starts at or before the slot, of all of them. Assumes nothing.
+use mathlib.Core.Path.{ap, _∙_}
+use Rattle.rules.specs.declared.Table.the-variants.{FuncInfo}
+use Rattle.rules.specs.Rows.{rowSize, wholeRows}
+use Rattle.tell.specs.Listing.{lastAt, pieceAt}
+use Rattle.tell.proofs.Laws.{no-less}
+use borrow.Author.Needs.{needs}
+use Rattle.tell.proofs.listing.piece_at.Statement.{statement}
+use Rattle.tell.proofs.listing.piece_at.Tie as tie
+
+last-at-requires : tie.Need-last-at-requires
+last-at-requires c κs = search needs
+
+returns : tie.Need-returns
+unfolding pieceAt
+returns c =
+    let p = c .before .before .args .pieces .now in
+    (c .last-at .ensures .0 ∙ ap (lastAt p (rowSize FuncInfo) 0 (c .before .before .args .slot)) (no-less (wholeRows FuncInfo p)), c .last-at .ensures .1)
+
+pub piece-at-spec : {M : Type 1} → statement M
+piece-at-spec = tie.close (tie.spec last-at-requires returns)

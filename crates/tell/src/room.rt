@@ -1,0 +1,65 @@
+// bark's own buffers, in bytes. They are counted here, and nowhere else.
+ghost use mathlib.Core.Path.{_≡_};
+ghost use Prim.Native.Nat.{_≤_};
+
+// Tables 1 to 8. Tables 1, 3, 5 and 7 have room for all the rows that document 01 allows.
+pub const CODE: usize = 256;
+
+pub const SYMBOLS: usize = 6144;
+
+pub const FUNCTIONS: usize = 2048;
+
+pub const RELOCATIONS: usize = 6144;
+
+pub const MAPS: usize = 1024;
+
+pub const INSTRUCTIONS: usize = 12288;
+
+pub const FUNC_INFO: usize = 2048;
+
+pub const LINE_INFO: usize = 8192;
+
+// The image.
+pub const IMAGE: usize = 12288;
+
+pub const IMAGE_FUNC_INFO: usize = 2048;
+
+pub const IMAGE_LINE_INFO: usize = 8192;
+
+// The marks: a record for each function, and for each copy that the image has, a second one of the root among them.
+pub const MARKS: usize = 512;
+
+pub const PIECES: usize = 520;
+
+// The two files' lengths, a path, the root's digits.
+pub const TABLE_LENGTHS: usize = 32;
+
+pub const IMAGE_LENGTHS: usize = 12;
+
+pub const PATH: usize = 1024;
+
+pub const ROOT: usize = 16;
+
+// Table 3 is held twice: as it was read, and marked.
+pub fn own_bytes() -> usize
+    ensures { λ r. ⌜ (r ≡ 64836) × (r ≤ 65536) ⌝ }
+{
+    CODE
+        + SYMBOLS
+        + FUNCTIONS
+        + FUNCTIONS
+        + RELOCATIONS
+        + MAPS
+        + INSTRUCTIONS
+        + FUNC_INFO
+        + LINE_INFO
+        + IMAGE
+        + IMAGE_FUNC_INFO
+        + IMAGE_LINE_INFO
+        + MARKS
+        + PIECES
+        + TABLE_LENGTHS
+        + IMAGE_LENGTHS
+        + PATH
+        + ROOT
+}
