@@ -1,10 +1,10 @@
-// What stands beside a slot of an image: the copy that it belongs to, and its line record.
+// What stands beside a slot of an image: the function and slot that it is a copy of, and its line record.
 ghost use mathlib.Core.Path.{_≡_};
 ghost use Prim.Native.Nat.{_*_, _-_, _≤_};
 ghost use lib.ListN.{length};
 ghost use Rattle.rules.specs.declared.Table.the-variants.{FuncInfo, LineInfo};
 ghost use Rattle.rules.specs.Rows.{rowSize};
-ghost use Rattle.tell.specs.Listing.{lastAt, pieceAt, lineAt, notBefore, Stands};
+ghost use Rattle.tell.specs.Listing.{lastAt, pieceAt, lineAt, notBefore, Stands, sourceOf, sourceAt, lineIn, lineOf};
 use rows::fields::FUNC_INFO_SIZE;
 use rows::fields::LINE_INFO_SIZE;
 use rules::Found;
@@ -13,7 +13,7 @@ use wire::u32_at;
 // The last of the records from `from` to `end`, of `size` bytes each, that stands at or before a slot.
 pub fn last_at(records: &[u8], size: usize, from: usize, end: usize, slot: u32) -> Found
     requires { ⌜ (4 ≤ size) × (size * end ≤ length (now records)) ⌝ }
-    ensures { λ r. ⌜ (r ≡ lastAt (now (records .entry)) size from slot (end - from)) × Stands size (now (records .entry)) r ⌝ }
+    ensures { λ r. ⌜ (r ≡ lastAt (now (records .entry)) size from slot (end - from)) × Stands size (now (records .entry)) slot r ⌝ }
 {
     let mut k = end;
     while k > from {
@@ -27,7 +27,7 @@ pub fn last_at(records: &[u8], size: usize, from: usize, end: usize, slot: u32) 
 
 // The copy that a slot belongs to.
 pub fn piece_at(pieces: &[u8], slot: u32) -> Found
-    ensures { λ r. ⌜ (r ≡ pieceAt (now (pieces .entry)) slot) × Stands (rowSize FuncInfo) (now (pieces .entry)) r ⌝ }
+    ensures { λ r. ⌜ (r ≡ pieceAt (now (pieces .entry)) slot) × Stands (rowSize FuncInfo) (now (pieces .entry)) slot r ⌝ }
 {
     last_at(
         pieces,
@@ -38,9 +38,9 @@ pub fn piece_at(pieces: &[u8], slot: u32) -> Found
     )
 }
 
-fn not_before(lines: &[u8], found: Found, start: u32) -> Found
-    requires { ⌜ Stands (rowSize LineInfo) (now lines) found ⌝ }
-    ensures { λ r. ⌜ (r ≡ notBefore (now (lines .entry)) found start) × Stands (rowSize LineInfo) (now (lines .entry)) r ⌝ }
+fn not_before(lines: &[u8], found: Found, start: u32, slot: u32) -> Found
+    requires { ⌜ Stands (rowSize LineInfo) (now lines) slot found ⌝ }
+    ensures { λ r. ⌜ (r ≡ notBefore (now (lines .entry)) found start) × Stands (rowSize LineInfo) (now (lines .entry)) slot r ⌝ }
 {
     match found {
         Found::At(k) => {
@@ -57,7 +57,7 @@ fn not_before(lines: &[u8], found: Found, start: u32) -> Found
 
 // The line record of a slot that belongs to the copy at `start`: the root's own records come first.
 pub fn line_at(lines: &[u8], own: usize, start: u32, slot: u32) -> Found
-    ensures { λ r. ⌜ (r ≡ lineAt (now (lines .entry)) own start slot) × Stands (rowSize LineInfo) (now (lines .entry)) r ⌝ }
+    ensures { λ r. ⌜ (r ≡ lineAt (now (lines .entry)) own start slot) × Stands (rowSize LineInfo) (now (lines .entry)) slot r ⌝ }
 {
     let n = lines.len() / LINE_INFO_SIZE;
     if start == 0 {
@@ -66,5 +66,74 @@ pub fn line_at(lines: &[u8], own: usize, start: u32, slot: u32) -> Found
         }
         return last_at(lines, LINE_INFO_SIZE, 0, n, slot);
     }
-    not_before(lines, last_at(lines, LINE_INFO_SIZE, own, n, slot), start)
+    not_before(
+        lines,
+        last_at(lines, LINE_INFO_SIZE, own, n, slot),
+        start,
+        slot,
+    )
+}
+
+pub enum Source {
+    Copy {
+        function: u32,
+        start: u32,
+        slot: u32,
+    },
+    Unknown,
+}
+
+fn source_of(pieces: &[u8], found: Found, slot: u32) -> Source
+    requires { ⌜ Stands (rowSize FuncInfo) (now pieces) slot found ⌝ }
+    ensures { λ r. ⌜ r ≡ sourceOf (now (pieces .entry)) slot found ⌝ }
+{
+    match found {
+        Found::At(k) => {
+            let start = u32_at(pieces, FUNC_INFO_SIZE * k);
+            let function = u32_at(pieces, FUNC_INFO_SIZE * k + 4);
+            return Source::Copy {
+                function,
+                start,
+                slot: slot - start,
+            };
+        }
+        Found::Nothing => {
+            return Source::Unknown;
+        }
+    }
+}
+
+// The function's row, where its copy starts in the image, and the slot of the function that stands there.
+pub fn source_at(pieces: &[u8], slot: u32) -> Source
+    ensures { λ r. ⌜ r ≡ sourceAt (now (pieces .entry)) slot ⌝ }
+{
+    source_of(pieces, piece_at(pieces, slot), slot)
+}
+
+pub enum Line {
+    At { file: u32, line: u32, column: u32 },
+    Unknown,
+}
+
+fn line_in(lines: &[u8], found: Found, slot: u32) -> Line
+    requires { ⌜ Stands (rowSize LineInfo) (now lines) slot found ⌝ }
+    ensures { λ r. ⌜ r ≡ lineIn (now (lines .entry)) found ⌝ }
+{
+    match found {
+        Found::At(k) => {
+            let file = u32_at(lines, LINE_INFO_SIZE * k + 4);
+            let line = u32_at(lines, LINE_INFO_SIZE * k + 8);
+            let column = u32_at(lines, LINE_INFO_SIZE * k + 12);
+            return Line::At { file, line, column };
+        }
+        Found::Nothing => {
+            return Line::Unknown;
+        }
+    }
+}
+
+pub fn line_of(lines: &[u8], own: usize, start: u32, slot: u32) -> Line
+    ensures { λ r. ⌜ r ≡ lineOf (now (lines .entry)) own start slot ⌝ }
+{
+    line_in(lines, line_at(lines, own, start, slot), slot)
 }

@@ -31,16 +31,16 @@ pub const MARKS: usize = 512;
 
 pub const PIECES: usize = 520;
 
-// The two files' lengths, a path, the root's digits.
+// The two files' lengths, their paths, the root's digits.
 pub const TABLE_LENGTHS: usize = 32;
 
 pub const IMAGE_LENGTHS: usize = 12;
 
-pub const PATH: usize = 1024;
+pub const PATH: usize = 512;
 
 pub const ROOT: usize = 16;
 
-// Table 3 is held twice: as it was read, and marked.
+// Table 3 is held twice, as it was read and marked, and there are two paths.
 pub fn own_bytes() -> usize
     ensures { λ r. ⌜ (r ≡ 64836) × (r ≤ 65536) ⌝ }
 {
@@ -60,6 +60,7 @@ pub fn own_bytes() -> usize
         + PIECES
         + TABLE_LENGTHS
         + IMAGE_LENGTHS
+        + PATH
         + PATH
         + ROOT
 }

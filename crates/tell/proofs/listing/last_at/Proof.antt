@@ -31,7 +31,7 @@ returns : tie.Need-returns Inv-loop μ-loop
 returns c =
     let s = c .before .before .before .before .before .args in
     let l = c .before .before .before .loop in
-    (sym (l .inv .1 ∙ last-hit (s .records .now) (s .size) (s .from) (s .slot) (l .k) (omega arith) (subst (λ (x : ℕ). x ≤ s .slot) (c .before .u32-at .ensures) (c .if1 .taken))), stands ((c .before .before .before .before .before .args) .size) ((c .before .before .before .loop) .k) ((c .before .before .before .before .before .args) .end) (length ((c .before .before .before .before .before .args) .records .now)) (omega arith) (omega arith) (c .before .before .before .before .before .pre .1))
+    (sym (l .inv .1 ∙ last-hit (s .records .now) (s .size) (s .from) (s .slot) (l .k) (omega arith) (subst (λ (x : ℕ). x ≤ s .slot) (c .before .u32-at .ensures) (c .if1 .taken))), (stands ((c .before .before .before .before .before .args) .size) ((c .before .before .before .loop) .k) ((c .before .before .before .before .before .args) .end) (length ((c .before .before .before .before .before .args) .records .now)) (omega arith) (omega arith) (c .before .before .before .before .before .pre .1), subst (λ (x : ℕ). x ≤ s .slot) (c .before .u32-at .ensures) (c .if1 .taken)))
 
 loop-less : tie.Need-loop-less Inv-loop μ-loop
 loop-less c = omega arith

@@ -10,17 +10,17 @@ use borrow.Author.Needs.{needs}
 use Rattle.tell.proofs.listing.not_before.Statement.{statement}
 use Rattle.tell.proofs.listing.not_before.Tie as tie
 
-found-stands : (c : tie.After-known-told) → 16 * c .before .found .given .0 .0 + 16 ≤ length (c .before .before .before .before .args .lines .now)
-found-stands c = subst (λ x. Stands 16 (c .before .before .before .before .args .lines .now) x) (c .before .found .given .1) (c .before .before .before .before .pre)
+found-stands : (c : tie.After-known-told) → Stands 16 (c .before .before .before .before .args .lines .now) (c .before .before .before .before .args .slot) (At (c .before .found .given .0 .0))
+found-stands c = subst (λ x. Stands 16 (c .before .before .before .before .args .lines .now) (c .before .before .before .before .args .slot) x) (c .before .found .given .1) (c .before .before .before .before .pre)
 
 enum-known-found : tie.Need-enum-known-found
 enum-known-found c = search needs
 
 mul-u32-at : tie.Need-mul-u32-at
-mul-u32-at c = omega (arith, found-stands c)
+mul-u32-at c = omega (arith, found-stands c .0)
 
 u32-at-requires : tie.Need-u32-at-requires
-u32-at-requires c κs = omega (arith, found-stands c)
+u32-at-requires c κs = omega (arith, found-stands c .0)
 
 returns : tie.Need-returns
 returns c =
