@@ -1,0 +1,36 @@
+// The tool bark: reads a tables file, does the map step and the link, writes an image file, and says what it did.
+mod listing;
+mod reading;
+mod seal;
+mod status;
+mod telling;
+mod writing;
+
+ghost use Prim.Native.Nat.{_≤_};
+use status::USAGE;
+use tell::room::ROOT;
+use tell::words::Number;
+use tell::words::parse;
+
+fn root() -> Number {
+    let mut digits = [0u8; ROOT];
+    let n = os::arg(2, &mut digits);
+    parse(&digits[..n])
+}
+
+// bark TABLES ROOT IMAGE, with the arguments that the process was started with. Gives the exit status (status.rt).
+#[no_mangle]
+pub extern "C" fn bark_run() -> u32
+    ensures { λ r. ⌜ r ≤ 4 ⌝ }
+{
+    if os::arg_count() != 4 {
+        telling::usage();
+        return USAGE;
+    }
+    let parsed = root();
+    let Number::Whole(row) = parsed else {
+        telling::note(b"the root is not a number: it is a row of table 3, in decimal digits");
+        return USAGE;
+    };
+    seal::bark(row)
+}
