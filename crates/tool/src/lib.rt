@@ -1,13 +1,9 @@
 // The tool bark: reads a tables file, does the map step and the link, writes an image file, and says what it did.
-mod listing;
-mod reading;
 mod seal;
-mod status;
-mod telling;
-mod writing;
 
 ghost use Prim.Native.Nat.{_≤_};
-use status::USAGE;
+use clerk::status::USAGE;
+use clerk::telling;
 use tell::room::ROOT;
 use tell::words::Number;
 use tell::words::parse;

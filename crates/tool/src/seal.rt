@@ -2,12 +2,12 @@
 ghost use Prim.Native.Nat.{_≤_, _<_};
 ghost use lib.ListN.{length};
 ghost use Rattle.io.specs.Counts.{Counts};
-use crate::listing;
-use crate::reading;
-use crate::status::DONE;
-use crate::status::NO_TABLES;
-use crate::telling;
-use crate::writing;
+use clerk::listing;
+use clerk::reading;
+use clerk::status::DONE;
+use clerk::status::NO_TABLES;
+use clerk::telling;
+use clerk::writing;
 use rows::fields::FUNCTION_SIZE;
 use rows::fields::function_line_info;
 use rules::Answer;

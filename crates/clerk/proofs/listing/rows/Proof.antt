@@ -1,8 +1,8 @@
 -- Each slot of the image has its eight bytes. The measure is the slots that are left. Assumes nothing.
 use Prim.Native.Nat.{_-_, _≤_}
 use borrow.Author.Needs.{needs}
-use Rattle.tool.proofs.listing.rows.Statement.{statement}
-use Rattle.tool.proofs.listing.rows.Tie as tie
+use Rattle.clerk.proofs.listing.rows.Statement.{statement}
+use Rattle.clerk.proofs.listing.rows.Tie as tie
 
 abbrev Inv-loop : tie.InvT-loop
 Inv-loop own pieces image lines n slot₀ slot = slot ≤ n
