@@ -12,8 +12,11 @@ bark:
 demo-bark: bark
 	@sh examples/bark.sh $(BARK)
 
-# Every way of bark to end, and its words. The image is held to what an independent model makes of the same tables.
+# Every way of bark to end, and its words. The image is held to what an independent model makes of the same tables, and so are
+# the words, the listing and the image of random objects.
 test-bark: bark
 	sh tests/bark.sh $(BARK) > target/c/bark.out
 	diff examples/bark.out target/c/bark.out
 	cmp examples/logger.tables crates/bark/data/logger.tables
+	if command -v python3 > /dev/null; then python3 tools/bark_model.py $(BARK) 200; \
+	else echo 'test-bark: no python3 here, the random objects are left out'; fi

@@ -1,11 +1,11 @@
 # Every way of the tool bark to end: bark.sh BARK. Prints each command, what it says on both outputs, and how it ends.
+# tools/sample.py makes the files of tests/bark.
 bark=$(realpath "$1")
 here=$(cd "$(dirname "$0")/.." && pwd)
 room=$(mktemp -d) || exit 1
 trap 'rm -rf "$room"' EXIT
 mkdir "$room/folder"
-python3 "$here/tools/sample.py" cases "$room" || exit 1
-cp "$here/examples/logger.tables" "$here/examples/forged.tables" "$room"
+cp "$here"/tests/bark/* "$here/examples/logger.tables" "$here/examples/forged.tables" "$room" || exit 1
 cd "$room" || exit 1
 
 run() {
@@ -38,13 +38,17 @@ run long 4 image
 run large 4 image
 run refused-2 4 image
 run refused-3 4 image
+run refused-11 0 image
 run refused-12 4 image
 run "$(printf '%0600d' 0)" 4 image
 run logger.tables 4 "$(printf '%0600d' 0)"
 run logger.tables 4 folder
 run logger.tables 4 missing/image
 run logger.tables 4 /dev/full
-[ -e image ] && echo "a refused run left an image"
 echo '$ bark logger.tables 4 image > /dev/full'
-"$bark" logger.tables 4 image 2>&1 > /dev/full
+{ "$bark" logger.tables 4 image > /dev/full; } 2>&1
 echo "exit $?"
+echo '$ bark logger.tables 4 image >&-'
+{ "$bark" logger.tables 4 image >&-; } 2>&1
+echo "exit $?"
+[ -e image ] || echo "no run that failed left an image"

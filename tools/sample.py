@@ -1,8 +1,8 @@
 """The sample objects that bark is shown on: a logger for the key device, and the same logger forged.
 
-python3 tools/sample.py             writes examples/logger.tables and examples/forged.tables, and by the independent model
-                                    (tools/bark_model.py) examples/logger.image; for the gate's run crates/bark/data and stdout
-python3 tools/sample.py cases DIR   writes the files that bark must turn down into DIR (tests/bark.sh runs them)
+python3 tools/sample.py   writes examples/logger.tables and examples/forged.tables; by the independent model (tools/bark_model.py)
+                          examples/logger.image; for the gate's run crates/bark/data and stdout; and tests/bark, files that bark
+                          must turn down, which tests/bark.sh runs
 
 A tables file has eight u32 lengths, then the tables 1 to 8. The logger, as its source would read:
 
@@ -138,15 +138,15 @@ def cases(folder):
     unknown = logger()
     unknown.put(4, 0, 4, u32(9))
     put(os.path.join(folder, "refused-3"), tables_file(unknown))
+    # a root of 800 slots that calls itself: its copy makes 1,600, and bark's image has room for 1,536
+    twice = Tables(codes=[code(3)], functions=[function(3, 800, 0, 0)], instructions=[call(-1)] + [EXIT] * 799)
+    put(os.path.join(folder, "refused-11"), tables_file(twice))
     stray = logger()
     stray.put(8, 4, 0, u32(11))
     put(os.path.join(folder, "refused-12"), tables_file(stray))
 
 
 def main():
-    if sys.argv[1:2] == ["cases"]:
-        cases(sys.argv[2])
-        return
     here = os.path.dirname(os.path.dirname(os.path.abspath(__file__)))
     put(os.path.join(here, "examples", "logger.tables"), tables_file(logger()))
     put(os.path.join(here, "examples", "forged.tables"), tables_file(forged()))
@@ -154,6 +154,7 @@ def main():
     _, said, image = expected(logger(), ROOT)
     put(os.path.join(here, "examples", "logger.image"), image)
     put(os.path.join(here, "crates", "bark", "stdout"), said.encode())
+    cases(os.path.join(here, "tests", "bark"))
 
 
 main()
