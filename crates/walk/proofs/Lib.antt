@@ -1,3 +1,5 @@
 pub mod Places
 pub mod Leads
+pub mod Runs
+pub mod Running
 pub mod Steps

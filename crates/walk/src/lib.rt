@@ -14,10 +14,11 @@ ghost use lib.IntN.{pos, _+ℤ_};
 ghost use lib.ListN.{length};
 ghost use Rattle.rules.specs.Bytes.{little, slotIn, slotSize};
 ghost use Rattle.rules.specs.Lookups.{foundOf};
-ghost use Rattle.rules.specs.Walk.{inImage, within, step};
+ghost use Rattle.rules.specs.Walk.{inImage, imageWalk, within};
 ghost use Rattle.insn.specs.Kinds.{codes};
-ghost use Rattle.walk.specs.Steps.{arrivedAt, Stands, Stepping, walkFrom};
 ghost use Rattle.walk.specs.Moves.{moveOf, Ground, imageIn, leadsIn};
+ghost use Rattle.walk.specs.Runs.{answersIn, walkFrom, Stepped, Ran};
+ghost use Rattle.walk.specs.Steps.{stoodOf, imageFrames, arrivedAt, framelessAt, Stepping};
 
 // Where a slot leads; places outside are places too.
 pub enum Move {
@@ -139,6 +140,21 @@ pub fn arrive(slots: u32, at: i64, depth: usize, taken: usize) -> Stand
     }
 }
 
+// A call for which there is no frame: it may lead outside.
+pub fn frameless(slots: u32, at: i64) -> Stand
+    ensures { λ r. ⌜ r ≡ framelessAt slots at ⌝ }
+{
+    let found = slot_in(at, slots);
+    match found {
+        Found::Nothing => {
+            return Stand::Left;
+        }
+        Found::At(_) => {
+            return Stand::NoFrame;
+        }
+    }
+}
+
 pub fn image_step(
     kinds: &[u8; 256],
     image: &[u8],
@@ -149,8 +165,8 @@ pub fn image_step(
     depth: usize,
     taken: usize,
 ) -> Stand
-    requires { ⌜ Stepping (now kinds) (now image) slots (now frames) depth ⌝ }
-    ensures { λ r. ⌜ Stands depth (now (frames .exit)) (now (answers .entry)) r (step (inImage (imageIn (now (image .entry)) slots)) (walkFrom (now (frames .entry)) (now (answers .entry)) at depth taken)) ⌝ }
+    requires { ⌜ Stepping (now kinds) (now image) slots (now frames) (now answers) depth taken ⌝ }
+    ensures { λ r. ⌜ Stepped imageFrames (inImage (imageIn (now (image .entry)) slots)) (length (now (answers .entry))) (now (frames .entry)) (now (frames .exit)) (walkFrom imageFrames (now (frames .entry)) (now (answers .entry)) at depth taken) (stoodOf r) ⌝ }
 {
     let found = image_move(kinds, image, slots, at);
     match found {
@@ -171,7 +187,7 @@ pub fn image_step(
         }
         Move::Enters(first, back) => {
             if depth >= frames.len() {
-                return Stand::NoFrame;
+                return frameless(slots, first);
             }
             frames[depth] = back;
             return arrive(slots, first, depth + 1, taken);
@@ -187,4 +203,49 @@ pub fn image_step(
             return Stand::Stopped(at, depth);
         }
     }
+}
+
+// At most `limit` steps from the first slot of an image.
+pub fn image_run(
+    kinds: &[u8; 256],
+    image: &[u8],
+    slots: u32,
+    frames: &mut [i64],
+    answers: &[u8],
+    limit: usize,
+) -> Stand
+    requires { ⌜ Ground (now kinds) (now image) slots ⌝ }
+    ensures { λ r. ⌜ Ran imageFrames (inImage (imageIn (now (image .entry)) slots)) (length (now (answers .entry))) (now (frames .entry)) (now (frames .exit)) (imageWalk (imageIn (now (image .entry)) slots) (answersIn (now (answers .entry)))) limit (stoodOf r) ⌝ }
+{
+    if slots == 0 {
+        return Stand::Left;
+    }
+    let mut at: i64 = 0;
+    let mut depth = 0;
+    let mut taken = 0;
+    let mut k = 0;
+    while k < limit {
+        let next = image_step(kinds, image, slots, frames, answers, at, depth, taken);
+        match next {
+            Stand::Standing(place, used, told) => {
+                at = place;
+                depth = used;
+                taken = told;
+                k += 1;
+            }
+            Stand::Stopped(place, used) => {
+                return Stand::Stopped(place, used);
+            }
+            Stand::Ended(place) => {
+                return Stand::Ended(place);
+            }
+            Stand::Left => {
+                return Stand::Left;
+            }
+            Stand::NoFrame => {
+                return Stand::NoFrame;
+            }
+        }
+    }
+    Stand::Standing(at, depth, taken)
 }

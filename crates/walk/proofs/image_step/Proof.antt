@@ -1,21 +1,22 @@
 -- Each move's arm is the definition's: a jump arrives, an answer chooses, a call pushes, an exit pops.
 -- Assumes nothing.
-use mathlib.Core.Path.{_≡_, sym, ap, _∙_, subst}
+use mathlib.Core.Path.{_≡_, refl, sym, ap, _∙_}
 use mathlib.Core.Option.{Option}
+use mathlib.Core.List.{List}
 use Prim.Native.Nat.{_+_, _-_}
 use lib.IntN.{ℤ, pos}
-use lib.ListN.{getD, set}
+use lib.ListN.{length, getD, set}
 use mir.Syntax.{w64}
 use mir.ValLaws.{toZ-ofZ}
 use borrow.Author.Needs.{needs}
-use borrow.Author.Tests.{eq-eqb, ne-eqb}
-use Rattle.rules.specs.Walk.{Walk, Move, inImage, step}
+use Rattle.rules.specs.Walk.{Move, inImage}
 use Rattle.walk.specs.Moves.{moveOf, imageIn}
-use Rattle.walk.specs.Steps.{walkFrom, Stands}
+use Rattle.walk.specs.Runs.{Stood, stops, ends, walkFrom, writing, Stepped}
+use Rattle.walk.specs.Steps.{stoodOf, imageFrames}
 use Rattle.walk.specs.declared.Move as move
 use Rattle.walk.specs.declared.Move.the-variants as found
-use Rattle.walk.specs.declared.Stand.the-variants.{Stopped, Ended}
-use Rattle.walk.proofs.Steps.{at-stand, held, leaves, sticks, goes-on, unanswered, says-yes, says-no, enters-on, ends, pops-from}
+use Rattle.walk.proofs.Runs.{stoodAfter, stepped, unanswered, says-yes, says-no, finds-none, finds-one, is-empty, pops, unwritten, written}
+use Rattle.walk.proofs.Steps.{arrives, lacks-one, held, held-frameless}
 use Rattle.walk.proofs.image_step.Statement.{statement}
 use Rattle.walk.proofs.image_step.Tie as tie
 
@@ -28,10 +29,15 @@ look n = inImage (imageIn (start n .args .image .now) (start n .args .slots))
 look-is : (n : tie.After-image-move) (m : move.Move) → n .image-move .result ≡ m → look n (start n .args .at) ≡ moveOf m
 look-is n m e = sym (n .image-move .ensures ∙ ap (look n) (toZ-ofZ w64 _ (start n .fits .at))) ∙ ap moveOf e
 
-abbrev stepped : tie.After-image-move → Walk ℤ
-stepped n =
+-- a step, by the move that was found
+by : (n : tie.After-image-move) (m : move.Move) → n .image-move .result ≡ m → {after : List ℤ} {s : Stood ℤ}
+    → s ≡ stoodAfter imageFrames (look n) (start n .args .answers .now) (start n .args .frames .now) (start n .args .at) (start n .args .depth) (start n .args .taken) (moveOf m)
+    → after ≡ writing imageFrames (moveOf m) (start n .args .frames .now) (start n .args .depth)
+    → Stepped imageFrames (look n) (length (start n .args .answers .now)) (start n .args .frames .now) after
+    (walkFrom imageFrames (start n .args .frames .now) (start n .args .answers .now) (start n .args .at) (start n .args .depth) (start n .args .taken)) s
+by n m e q f =
     let a = start n .args in
-    step (look n) (walkFrom (a .frames .now) (a .answers .now) (a .at) (a .depth) (a .taken))
+    stepped imageFrames (look n) (a .answers .now) (a .frames .now) (a .at) (a .depth) (a .taken) (start n .pre .deep) (start n .pre .few) (moveOf m) (look-is n m e) q f
 
 image-move-requires : tie.Need-image-move-requires
 image-move-requires c κs = search needs
@@ -40,10 +46,7 @@ enum-told : tie.Need-enum-told
 enum-told c = search needs
 
 returns : tie.Need-returns
-returns c =
-    let n = c .before .before in
-    let a = start n .args in
-    leaves (start n .pre .ground) (a .answers .now) (a .depth) (a .frames .now) (a .at) (a .depth) (a .taken) (look-is n found.Outside (c .enum-told .given .1))
+returns c = by (c .before .before) found.Outside (c .enum-told .given .1) refl refl
 
 enum-known-found : tie.Need-enum-known-found
 enum-known-found c = search needs
@@ -56,10 +59,9 @@ returns-2 c =
     let f = c .before .before in
     let n = f .before .before in
     let a = start n .args in
-    at-stand (a .depth) (a .frames .now) (a .answers .now) (stepped n)
-    (c .arrive .ensures ∙ held (a .slots) (f .found .given .0 .0) (a .depth) (a .taken) (c .before .known-told .given .0 .1))
-    (goes-on (start n .pre .ground) (a .answers .now) (a .depth) (a .frames .now) (a .at) (a .depth) (a .taken) (f .found .given .0 .0)
-    (look-is n (found.Goes (f .found .given .0 .0)) (f .found .given .1)))
+    let z = f .found .given .0 .0 in
+    by n (found.Goes z) (f .found .given .1)
+    (ap stoodOf (c .arrive .ensures ∙ held (a .slots) z (a .depth) (a .taken) (c .before .known-told .given .0 .1)) ∙ arrives (start n .pre .ground) z (a .depth) (a .taken)) refl
 
 enum-known-found-2 : tie.Need-enum-known-found-2
 enum-known-found-2 c = search needs
@@ -69,10 +71,9 @@ returns-3 c =
     let f = c .before .before in
     let n = f .before .before in
     let a = start n .args in
-    at-stand (a .depth) (a .frames .now) (a .answers .now) (stepped n)
-    (ap (λ (z : ℤ). Stopped z (a .depth)) (toZ-ofZ w64 _ (start n .fits .at)))
-    (unanswered (start n .pre .ground) (a .answers .now) (a .depth) (a .frames .now) (a .at) (a .depth) (a .taken) (f .found2 .given .0 .0) (f .found2 .given .0 .1 .0)
-    (look-is n (found.Chooses (f .found2 .given .0 .0) (f .found2 .given .0 .1 .0)) (f .found2 .given .1)) (c .if1 .taken))
+    by n (found.Chooses (f .found2 .given .0 .0) (f .found2 .given .0 .1 .0)) (f .found2 .given .1)
+    (ap (λ (z : ℤ). stops z (a .depth)) (toZ-ofZ w64 _ (start n .fits .at))
+    ∙ unanswered imageFrames (look n) (a .answers .now) (a .frames .now) (a .at) (a .depth) (a .taken) (f .found2 .given .0 .0) (f .found2 .given .0 .1 .0) (c .if1 .taken)) refl
 
 shared-slice-read-if2 : tie.Need-shared-slice-read-if2
 shared-slice-read-if2 c = search needs
@@ -89,11 +90,11 @@ returns-4 c =
     let f = e .before .before in
     let n = f .before .before in
     let a = start n .args in
-    at-stand (a .depth) (a .frames .now) (a .answers .now) (stepped n)
-    (c .arrive2 .ensures ∙ held (a .slots) (f .found2 .given .0 .0) (a .depth) (a .taken + 1) (e .before .known-told2 .given .0 .1))
-    (says-yes (start n .pre .ground) (a .answers .now) (a .depth) (a .frames .now) (a .at) (a .depth) (a .taken) (f .found2 .given .0 .0) (f .found2 .given .0 .1 .0)
-    (look-is n (found.Chooses (f .found2 .given .0 .0) (f .found2 .given .0 .1 .0)) (f .found2 .given .1)) (e .if1 .left)
-    (eq-eqb (getD (a .answers .now) (a .taken) 0) 1 (c .before .if2 .taken)))
+    let z = f .found2 .given .0 .0 in
+    by n (found.Chooses z (f .found2 .given .0 .1 .0)) (f .found2 .given .1)
+    (ap stoodOf (c .arrive2 .ensures ∙ held (a .slots) z (a .depth) (a .taken + 1) (e .before .known-told2 .given .0 .1))
+    ∙ arrives (start n .pre .ground) z (a .depth) (a .taken + 1)
+    ∙ says-yes imageFrames (look n) (a .answers .now) (a .frames .now) (a .at) (a .depth) (a .taken) z (f .found2 .given .0 .1 .0) (e .if1 .left) (c .before .if2 .taken)) refl
 
 add-arrive-2 : tie.Need-add-arrive-2
 add-arrive-2 c = search needs
@@ -107,17 +108,30 @@ returns-5 c =
     let f = e .before .before in
     let n = f .before .before in
     let a = start n .args in
-    at-stand (a .depth) (a .frames .now) (a .answers .now) (stepped n)
-    (c .arrive3 .ensures ∙ held (a .slots) (f .found2 .given .0 .1 .0) (a .depth) (a .taken + 1) (e .before .known-told2 .given .1 .0 .1))
-    (says-no (start n .pre .ground) (a .answers .now) (a .depth) (a .frames .now) (a .at) (a .depth) (a .taken) (f .found2 .given .0 .0) (f .found2 .given .0 .1 .0)
-    (look-is n (found.Chooses (f .found2 .given .0 .0) (f .found2 .given .0 .1 .0)) (f .found2 .given .1)) (e .if1 .left)
-    (ne-eqb (getD (a .answers .now) (a .taken) 0) 1 (c .before .if2 .left)))
+    let z = f .found2 .given .0 .1 .0 in
+    by n (found.Chooses (f .found2 .given .0 .0) z) (f .found2 .given .1)
+    (ap stoodOf (c .arrive3 .ensures ∙ held (a .slots) z (a .depth) (a .taken + 1) (e .before .known-told2 .given .1 .0 .1))
+    ∙ arrives (start n .pre .ground) z (a .depth) (a .taken + 1)
+    ∙ says-no imageFrames (look n) (a .answers .now) (a .frames .now) (a .at) (a .depth) (a .taken) (f .found2 .given .0 .0) z (e .if1 .left) (c .before .if2 .left)) refl
 
 enum-known-found-3 : tie.Need-enum-known-found-3
 enum-known-found-3 c = search needs
 
+frameless-requires : tie.Need-frameless-requires
+frameless-requires c κs = search needs
+
 returns-6 : tie.Need-returns-6
-returns-6 c = search needs
+returns-6 c =
+    let e = c .before in
+    let f = e .before .before in
+    let n = f .before .before in
+    let a = start n .args in
+    let z = f .found3 .given .0 .0 in
+    let back = f .found3 .given .0 .1 .0 in
+    by n (found.Enters z back) (f .found3 .given .1)
+    (ap stoodOf (c .frameless .ensures ∙ held-frameless (a .slots) z (e .before .known-told3 .given .0 .1)) ∙ lacks-one (start n .pre .ground) z
+    ∙ finds-none imageFrames (look n) (a .answers .now) (a .frames .now) (a .at) (a .depth) (a .taken) z back (e .if3 .taken))
+    (unwritten imageFrames (look n) (a .answers .now) (a .frames .now) (a .depth) z back (e .if3 .taken))
 
 mul-back : tie.Need-mul-back
 mul-back c = search needs
@@ -140,12 +154,14 @@ returns-7 c =
     let f = e .before .before in
     let n = f .before .before in
     let a = start n .args in
-    subst (λ (z : ℤ). Stands (a .depth) (set (a .frames .now) (a .depth) z) (a .answers .now) (c .arrive4 .result) (stepped n))
-    (sym (toZ-ofZ w64 (f .found3 .given .0 .1 .0) (record { sfits = e .before .known-told3 .given .1 .0 .1 })))
-    (at-stand (a .depth) (set (a .frames .now) (a .depth) (f .found3 .given .0 .1 .0)) (a .answers .now) (stepped n)
-    (c .arrive4 .ensures ∙ held (a .slots) (f .found3 .given .0 .0) (a .depth + 1) (a .taken) (e .before .known-told3 .given .0 .1))
-    (enters-on (start n .pre .ground) (a .answers .now) (a .depth) (a .frames .now) (a .at) (a .depth) (a .taken) (f .found3 .given .0 .0) (f .found3 .given .0 .1 .0)
-    (look-is n (found.Enters (f .found3 .given .0 .0) (f .found3 .given .0 .1 .0)) (f .found3 .given .1)) (e .if3 .left)))
+    let z = f .found3 .given .0 .0 in
+    let back = f .found3 .given .0 .1 .0 in
+    by n (found.Enters z back) (f .found3 .given .1)
+    (ap stoodOf (c .arrive4 .ensures ∙ held (a .slots) z (a .depth + 1) (a .taken) (e .before .known-told3 .given .0 .1))
+    ∙ arrives (start n .pre .ground) z (a .depth + 1) (a .taken)
+    ∙ finds-one imageFrames (look n) (a .answers .now) (a .frames .now) (a .at) (a .depth) (a .taken) z back (e .if3 .left))
+    (ap (set (a .frames .now) (a .depth)) (toZ-ofZ w64 back (record { sfits = e .before .known-told3 .given .1 .0 .1 }))
+    ∙ written imageFrames (look n) (a .answers .now) (a .frames .now) (a .depth) z back (e .if3 .left))
 
 enum-told-2 : tie.Need-enum-told-2
 enum-told-2 c = search needs
@@ -154,9 +170,8 @@ returns-8 : tie.Need-returns-8
 returns-8 c =
     let n = c .before .before .before in
     let a = start n .args in
-    at-stand (a .depth) (a .frames .now) (a .answers .now) (stepped n)
-    (ap (λ (z : ℤ). Ended z) (toZ-ofZ w64 _ (start n .fits .at)))
-    (ends (start n .pre .ground) (a .answers .now) (a .depth) (a .frames .now) (a .at) (a .depth) (a .taken) (look-is n found.Returns (c .before .enum-told2 .given .1)) (c .if4 .taken))
+    by n found.Returns (c .before .enum-told2 .given .1)
+    (ap (λ (z : ℤ). ends z) (toZ-ofZ w64 _ (start n .fits .at)) ∙ is-empty imageFrames (look n) (a .answers .now) (a .frames .now) (a .at) (a .depth) (a .taken) (c .if4 .taken)) refl
 
 sub-top : tie.Need-sub-top
 sub-top c = search needs
@@ -175,9 +190,11 @@ returns-9 c =
     let e = c .before .before in
     let n = e .before .before .before in
     let a = start n .args in
-    at-stand (a .depth) (a .frames .now) (a .answers .now) (stepped n)
-    (c .arrive5 .ensures ∙ held (a .slots) (getD (a .frames .now) (a .depth - 1) (pos 0)) (a .depth - 1) (a .taken) (c .before .arrive-arg .given))
-    (pops-from (start n .pre .ground) (a .answers .now) (a .depth) (a .frames .now) (a .at) (a .depth) (a .taken) (look-is n found.Returns (e .before .enum-told2 .given .1)) (e .if4 .left))
+    let z = getD (a .frames .now) (a .depth - 1) (pos 0) in
+    by n found.Returns (e .before .enum-told2 .given .1)
+    (ap stoodOf (c .arrive5 .ensures ∙ held (a .slots) z (a .depth - 1) (a .taken) (c .before .arrive-arg .given))
+    ∙ arrives (start n .pre .ground) z (a .depth - 1) (a .taken)
+    ∙ pops imageFrames (look n) (a .answers .now) (a .frames .now) (a .at) (a .depth) (a .taken) (e .if4 .left)) refl
 
 enum-told-3 : tie.Need-enum-told-3
 enum-told-3 c = search needs
@@ -186,9 +203,7 @@ returns-10 : tie.Need-returns-10
 returns-10 c =
     let n = c .before .before in
     let a = start n .args in
-    at-stand (a .depth) (a .frames .now) (a .answers .now) (stepped n)
-    (ap (λ (z : ℤ). Stopped z (a .depth)) (toZ-ofZ w64 _ (start n .fits .at)))
-    (sticks (start n .pre .ground) (a .answers .now) (a .depth) (a .frames .now) (a .at) (a .depth) (a .taken) (look-is n found.Stuck (c .enum-told3 .given .1)))
+    by n found.Stuck (c .enum-told3 .given .1) (ap (λ (z : ℤ). stops z (a .depth)) (toZ-ofZ w64 _ (start n .fits .at))) refl
 
 pub image-step-spec : {M : Type 1} → statement M
 image-step-spec =
@@ -210,6 +225,7 @@ image-step-spec =
     arrive-requires-3
     returns-5
     enum-known-found-3
+    frameless-requires
     returns-6
     mul-back
     slice-set-from-back
