@@ -3,3 +3,4 @@ pub mod Leads
 pub mod Runs
 pub mod Running
 pub mod Steps
+pub mod Alike

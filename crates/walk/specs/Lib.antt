@@ -1,3 +1,4 @@
 pub mod Moves
 pub mod Runs
 pub mod Steps
+pub mod Alike

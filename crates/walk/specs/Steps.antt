@@ -1,15 +1,20 @@
 -- The image walk over lent frames: a frame is a slot number.
 -- Assumes nothing.
+use mathlib.Core.Path.{_≡_}
 use mathlib.Core.List.{List}
-use Prim.Native.Nat.{ℕ, _≤_}
+use Prim.Native.Nat.{ℕ, _/_, _≤_, _<_}
 use lib.IntN.{ℤ, pos}
 use lib.ListN.{length, getD, set}
 use Rattle.rules.specs.declared.Found.{Found}
 use Rattle.rules.specs.declared.Found.the-variants as found
 use Rattle.rules.specs.Lookups.{foundOf}
-use Rattle.rules.specs.Walk.{within}
-use Rattle.walk.specs.Moves.{Ground}
-use Rattle.walk.specs.Runs.{Stood, stands, stops, ends, leaves, lacks, Frames}
+use Rattle.rules.specs.Bytes.{slotSize}
+use Rattle.rules.specs.Rows.{mostImageSlots}
+use Rattle.rules.specs.Walk.{within, inImage, imageWalk}
+use Rattle.walk.specs.Moves.{Ground, imageIn}
+use Rattle.walk.specs.Runs.{answersIn, Stood, stands, stops, ends, leaves, lacks, Frames, Ran}
+use Rattle.walk.specs.declared.ImageRun.{ImageRun}
+use Rattle.walk.specs.declared.ImageRun.the-variants.{Came, TooLong}
 use Rattle.walk.specs.declared.Stand.{Stand}
 use Rattle.walk.specs.declared.Stand.the-variants.{Standing, Stopped, Ended, Left, NoFrame}
 
@@ -42,3 +47,11 @@ pub record Stepping (kinds image : List ℕ) (slots : ℕ) (frames : List ℤ) (
   pub ground : Ground kinds image slots
   pub deep : depth ≤ length frames
   pub few : taken ≤ length answers
+
+-- of an image's whole slots, which are no more than an image may hold
+abbrev pub ImageWalked : List ℕ → List ℤ → List ℤ → List ℕ → ℕ → ImageRun → Type 0
+ImageWalked image frames after answers limit (Came s) =
+    (length image / slotSize ≤ mostImageSlots)
+    × Ran imageFrames (inImage (imageIn image (length image / slotSize))) (length answers) frames after
+    (imageWalk (imageIn image (length image / slotSize)) (answersIn answers)) limit (stoodOf s)
+ImageWalked image frames after answers limit TooLong = (mostImageSlots < length image / slotSize) × (after ≡ frames)

@@ -2,6 +2,7 @@
 use insn::immediate;
 use insn::insn_is_call;
 use insn::kinds::kind_of;
+use insn::kinds::table;
 use insn::offset;
 use insn::opcode;
 use insn::slot_at;
@@ -18,7 +19,7 @@ ghost use Rattle.rules.specs.Walk.{inImage, imageWalk, within};
 ghost use Rattle.insn.specs.Kinds.{codes};
 ghost use Rattle.walk.specs.Moves.{moveOf, Ground, imageIn, leadsIn};
 ghost use Rattle.walk.specs.Runs.{answersIn, walkFrom, Stepped, Ran};
-ghost use Rattle.walk.specs.Steps.{stoodOf, imageFrames, arrivedAt, framelessAt, Stepping};
+ghost use Rattle.walk.specs.Steps.{stoodOf, imageFrames, arrivedAt, framelessAt, Stepping, ImageWalked};
 
 // Where a slot leads; places outside are places too.
 pub enum Move {
@@ -40,6 +41,15 @@ pub enum Stand {
     Left,
     // a call found no frame left
     NoFrame,
+}
+
+// What an image may hold.
+const MOST_SLOTS: usize = 4096;
+
+pub enum ImageRun {
+    Came(Stand),
+    // more slots than an image may hold
+    TooLong,
 }
 
 // Exact at 64 bits for every slot and immediate.
@@ -248,4 +258,17 @@ pub fn image_run(
         }
     }
     Stand::Standing(at, depth, taken)
+}
+
+// The walk of an image's whole slots, from its first one, at most `limit` steps. Any bytes may be offered.
+pub fn walk_image(image: &[u8], frames: &mut [i64], answers: &[u8], limit: usize) -> ImageRun
+    ensures { λ r. ⌜ ImageWalked (now (image .entry)) (now (frames .entry)) (now (frames .exit)) (now (answers .entry)) limit r ⌝ }
+{
+    let slots = image.len() / 8;
+    if slots > MOST_SLOTS {
+        return ImageRun::TooLong;
+    }
+    let kinds = table();
+    let stand = image_run(&kinds, image, slots as u32, frames, answers, limit);
+    ImageRun::Came(stand)
 }

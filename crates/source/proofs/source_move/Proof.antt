@@ -1,0 +1,89 @@
+-- Outside its function there is nothing; inside, the slot is the row's.
+-- Assumes nothing.
+use mathlib.Core.Path.{_≡_, sym, ap, _∙_}
+use Prim.Native.Nat.{ℕ}
+use native.Mathlib.Omega.{arith}
+use lib.IntN.{ℤ}
+use mir.Syntax.{w64}
+use mir.ValLaws.{toZ-ofZ}
+use borrow.Author.Needs.{needs}
+use Rattle.rules.specs.Walk.{place, inSource}
+use Rattle.rules.proofs.Passed.{good-function}
+use Rattle.walk.proofs.Places.{slotFound, Lies, lies}
+use Rattle.source.specs.Moves.{slotsIn}
+use Rattle.source.proofs.Sights.{objectIn, source-outside, Inside, inside}
+use Rattle.source.proofs.source_move.Statement.{statement}
+use Rattle.source.proofs.source_move.Tie as tie
+
+abbrev start : tie.After-slot-in → tie.Start
+start n = n .before .before .before .before .before .before .before
+
+found-is : (n : tie.After-slot-in) → n .slot-in .result ≡ slotFound (slotsIn (start n .args .functions .now) (start n .args .row)) (start n .args .at)
+found-is n =
+    n .slot-in .ensures
+    ∙ ap (slotFound (n .before .slots-of .result)) (toZ-ofZ w64 _ (start n .fits .at))
+    ∙ ap (λ (k : ℕ). slotFound k (start n .args .at)) (n .before .slots-of .ensures)
+
+lies-at : (c : tie.After-found) → Lies (slotsIn (start (c .before .before) .args .functions .now) (start (c .before .before) .args .row)) (start (c .before .before) .args .at) (c .found .given .0 .0)
+lies-at c = lies _ _ _ (sym (c .found .given .1) ∙ found-is (c .before .before))
+
+in-row : (c : tie.After-found) → Inside (start (c .before .before) .args .functions .now) (start (c .before .before) .args .row) (c .found .given .0 .0)
+in-row c = inside _ _ _ (lies-at c .low)
+
+slots-of-requires : tie.Need-slots-of-requires
+slots-of-requires c κs = search needs
+
+slot-in-requires : tie.Need-slot-in-requires
+slot-in-requires c κs = search needs
+
+enum-told : tie.Need-enum-told
+enum-told c = search needs
+
+returns : tie.Need-returns
+returns c =
+    let n = c .before .before in
+    let a = start n .args in
+    sym (source-outside (a .code .now) (a .symbols .now) (a .functions .now) (a .relocations .now) (a .instructions .now) (a .row) (a .at) (sym (c .enum-told .given .1) ∙ found-is n))
+
+enum-known-found : tie.Need-enum-known-found
+enum-known-found c = search needs
+
+first-slot-requires : tie.Need-first-slot-requires
+first-slot-requires c κs =
+    let f = c .before in
+    (start (f .before .before) .pre .tables .functions, in-row f .row-inside)
+
+cast-move-at : tie.Need-cast-move-at
+cast-move-at c =
+    let f = c .before .before in
+    let s = start (f .before .before) in
+    record { fits = omega (arith, in-row f .slot-inside, good-function (s .args .functions .now) (s .pre .tables .functions) (s .args .row) (in-row f .row-inside) .slots-high) }
+
+move-at-requires : tie.Need-move-at-requires
+move-at-requires c κs =
+    let f = c .before .before in
+    let s = start (f .before .before) in (
+      s .pre,
+      record { tables = s .pre .tables; row-inside = in-row f .row-inside; slot-inside = in-row f .slot-inside; first-is = c .first-slot .ensures },
+    )
+
+returns-2 : tie.Need-returns-2
+returns-2 c =
+    let f = c .before .before .before in
+    let a = start (f .before .before) .args in
+    c .move-at .ensures
+    ∙ ap (λ (z : ℤ). inSource (objectIn (a .code .now) (a .symbols .now) (a .functions .now) (a .relocations .now) (a .instructions .now)) (place (a .row) z)) (sym (lies-at f .place))
+
+pub source-move-spec : {M : Type 1} → statement M
+source-move-spec =
+    tie.close
+    (tie.spec
+    slots-of-requires
+    slot-in-requires
+    enum-told
+    returns
+    enum-known-found
+    first-slot-requires
+    cast-move-at
+    move-at-requires
+    returns-2)

@@ -1,0 +1,431 @@
+// The source walk of demand 3: over the functions of the tables, each callee found by section and address.
+use insn::kinds::table;
+use insn::offset_at;
+use insn::place;
+use insn::slot_at;
+use resolve::Meaning;
+use resolve::resolve;
+use rows::fields::FUNCTION_SIZE;
+use rows::fields::function_offset;
+use rows::fields::function_section;
+use rows::fields::function_slots;
+use rows::find::find_relocation;
+use rules::Answer;
+use rules::Found;
+use tables::checks::check_map_step;
+use walk::Move;
+use walk::leads_at;
+use walk::slot_in;
+ghost use mathlib.Core.Path.{_≡_};
+ghost use mathlib.Core.List.{[]};
+ghost use Prim.Native.Nat.{_≤_, _<_};
+ghost use lib.IntN.{pos};
+ghost use lib.ListN.{length};
+ghost use Rattle.rules.specs.declared.Table.the-variants.{Functions};
+ghost use Rattle.rules.specs.Object as object;
+ghost use Rattle.rules.specs.Rows.{wholeRows, summed, functionSlots, mapStepOffer};
+ghost use Rattle.rules.specs.Lookups.{Sound};
+ghost use Rattle.rules.specs.Tables.{objectOf};
+ghost use Rattle.rules.specs.Walk as walks;
+ghost use Rattle.rules.specs.Walk.{inSource, sourceWalk};
+ghost use Rattle.resolve.specs.Means.{tablesIn};
+ghost use Rattle.walk.specs.Runs.{answersIn, walkFrom, Stepped, Ran};
+ghost use Rattle.source.specs.Moves.{Source, Slotted, slotsIn, calledBy, moveFrom, enteredBy};
+ghost use Rattle.source.specs.Steps.{lent, sourceFrames, stoodOf, arrivedAt, framelessAt, Stepping, SourceWalked};
+
+// Where a slot of a function leads: a jump stays in its function.
+pub enum SourceMove {
+    Outside,
+    Goes(i64),
+    // on yes, on no
+    Chooses(i64, i64),
+    // the callee's row, the slot to return to
+    Enters(usize, i64),
+    Returns,
+    Stuck,
+}
+
+// A walk's state: the row and the slot, how many frames and how many answers are used.
+pub enum SourceStand {
+    Standing(usize, i64, usize, usize),
+    Stopped(usize, i64, usize),
+    Ended(usize, i64),
+    Left,
+    // a call found no frame left
+    NoFrame,
+}
+
+pub enum SourceRun {
+    Came(SourceStand),
+    // 1, 2 or 13, as the link refuses
+    Refused(Answer),
+}
+
+// What is no row of table 3 has no slots.
+pub fn slots_of(functions: &[u8], row: usize) -> u32
+    ensures { λ r. ⌜ r ≡ slotsIn (now (functions .entry)) row ⌝ }
+{
+    if row >= functions.len() / FUNCTION_SIZE {
+        return 0;
+    }
+    function_slots(functions, row)
+}
+
+// Where a row's slots begin in table 6.
+pub fn first_slot(functions: &[u8], row: usize) -> u32
+    requires { ⌜ Sound Functions (now functions) × (row < wholeRows Functions (now functions)) ⌝ }
+    ensures { λ r. ⌜ r ≡ summed (functionSlots (now (functions .entry))) 0 row ⌝ }
+{
+    let mut first: u32 = 0;
+    let mut k = 0;
+    while k < row {
+        first += function_slots(functions, k);
+        k += 1;
+    }
+    first
+}
+
+// The row that a call at this slot enters.
+pub fn callee(
+    code: &[u8],
+    symbols: &[u8],
+    functions: &[u8],
+    relocations: &[u8],
+    instructions: &[u8],
+    row: usize,
+    first: u32,
+    slot: u32,
+) -> Found
+    requires { ⌜ Slotted (now code) (now symbols) (now functions) (now relocations) (now instructions) row first slot ⌝ }
+    ensures { λ r. ⌜ r ≡ calledBy (object.meaning (objectOf (tablesIn (now (code .entry)) (now (symbols .entry)) (now (functions .entry)) (now (relocations .entry)) (now (instructions .entry)))) row slot) ⌝ }
+{
+    let at = place(offset_at(function_offset(functions, row)), slot_at(slot));
+    let rel = find_relocation(relocations, function_section(functions, row), at.0);
+    let meaning = resolve(
+        code,
+        symbols,
+        functions,
+        relocations,
+        instructions,
+        row,
+        first,
+        slot,
+        rel,
+    );
+    match meaning {
+        Meaning::Copied => {
+            return Found::Nothing;
+        }
+        Meaning::Points(to, refers) => {
+            if refers {
+                return Found::Nothing;
+            }
+            return Found::At(to);
+        }
+        Meaning::Refused(_) => {
+            return Found::Nothing;
+        }
+    }
+}
+
+pub fn entered(to: Found, back: i64) -> SourceMove
+    ensures { λ r. ⌜ r ≡ enteredBy to back ⌝ }
+{
+    match to {
+        Found::At(row) => {
+            return SourceMove::Enters(row, back);
+        }
+        Found::Nothing => {
+            return SourceMove::Stuck;
+        }
+    }
+}
+
+// At a slot of a row whose slots begin at `first` in table 6.
+pub fn move_at(
+    kinds: &[u8; 256],
+    code: &[u8],
+    symbols: &[u8],
+    functions: &[u8],
+    relocations: &[u8],
+    instructions: &[u8],
+    row: usize,
+    first: u32,
+    slot: u32,
+) -> SourceMove
+    requires { ⌜ Source (now kinds) (now code) (now symbols) (now functions) (now relocations) (now instructions) × Slotted (now code) (now symbols) (now functions) (now relocations) (now instructions) row first slot ⌝ }
+    ensures { λ r. ⌜ moveFrom row r ≡ inSource (objectOf (tablesIn (now (code .entry)) (now (symbols .entry)) (now (functions .entry)) (now (relocations .entry)) (now (instructions .entry)))) (walks.place row (pos slot)) ⌝ }
+{
+    let led = leads_at(kinds, instructions, slot_at(first + slot), slot);
+    match led {
+        Move::Outside => {
+            return SourceMove::Outside;
+        }
+        Move::Goes(next) => {
+            return SourceMove::Goes(next);
+        }
+        Move::Chooses(on_yes, on_no) => {
+            return SourceMove::Chooses(on_yes, on_no);
+        }
+        Move::Enters(_, back) => {
+            let to = callee(
+                code,
+                symbols,
+                functions,
+                relocations,
+                instructions,
+                row,
+                first,
+                slot,
+            );
+            return entered(to, back);
+        }
+        Move::Returns => {
+            return SourceMove::Returns;
+        }
+        Move::Stuck => {
+            return SourceMove::Stuck;
+        }
+    }
+}
+
+pub fn source_move(
+    kinds: &[u8; 256],
+    code: &[u8],
+    symbols: &[u8],
+    functions: &[u8],
+    relocations: &[u8],
+    instructions: &[u8],
+    row: usize,
+    at: i64,
+) -> SourceMove
+    requires { ⌜ Source (now kinds) (now code) (now symbols) (now functions) (now relocations) (now instructions) ⌝ }
+    ensures { λ r. ⌜ moveFrom row r ≡ inSource (objectOf (tablesIn (now (code .entry)) (now (symbols .entry)) (now (functions .entry)) (now (relocations .entry)) (now (instructions .entry)))) (walks.place row at) ⌝ }
+{
+    let found = slot_in(at, slots_of(functions, row));
+    match found {
+        Found::Nothing => {
+            return SourceMove::Outside;
+        }
+        Found::At(k) => {
+            return move_at(
+                kinds,
+                code,
+                symbols,
+                functions,
+                relocations,
+                instructions,
+                row,
+                first_slot(functions, row),
+                k as u32,
+            );
+        }
+    }
+}
+
+pub fn arrive(functions: &[u8], row: usize, at: i64, depth: usize, taken: usize) -> SourceStand
+    ensures { λ r. ⌜ r ≡ arrivedAt (slotsIn (now (functions .entry)) row) row at depth taken ⌝ }
+{
+    let found = slot_in(at, slots_of(functions, row));
+    match found {
+        Found::Nothing => {
+            return SourceStand::Left;
+        }
+        Found::At(_) => {
+            return SourceStand::Standing(row, at, depth, taken);
+        }
+    }
+}
+
+// A call for which there is no frame.
+pub fn frameless(functions: &[u8], row: usize) -> SourceStand
+    ensures { λ r. ⌜ r ≡ framelessAt (slotsIn (now (functions .entry)) row) ⌝ }
+{
+    if slots_of(functions, row) == 0 {
+        return SourceStand::Left;
+    }
+    SourceStand::NoFrame
+}
+
+// A frame is a row and a slot: as many frames are lent as both slices have.
+pub fn source_step(
+    kinds: &[u8; 256],
+    code: &[u8],
+    symbols: &[u8],
+    functions: &[u8],
+    relocations: &[u8],
+    instructions: &[u8],
+    frame_rows: &mut [usize],
+    frame_slots: &mut [i64],
+    answers: &[u8],
+    row: usize,
+    at: i64,
+    depth: usize,
+    taken: usize,
+) -> SourceStand
+    requires { ⌜ Stepping (now kinds) (now code) (now symbols) (now functions) (now relocations) (now instructions) (lent (now «frame_rows») (now «frame_slots»)) (now answers) depth taken ⌝ }
+    ensures { λ r. ⌜ Stepped sourceFrames (inSource (objectOf (tablesIn (now (code .entry)) (now (symbols .entry)) (now (functions .entry)) (now (relocations .entry)) (now (instructions .entry))))) (length (now (answers .entry))) (lent (now («frame_rows» .entry)) (now («frame_slots» .entry))) (lent (now («frame_rows» .exit)) (now («frame_slots» .exit))) (walkFrom sourceFrames (lent (now («frame_rows» .entry)) (now («frame_slots» .entry))) (now (answers .entry)) (walks.place row at) depth taken) (stoodOf r) ⌝ }
+{
+    let found = source_move(
+        kinds,
+        code,
+        symbols,
+        functions,
+        relocations,
+        instructions,
+        row,
+        at,
+    );
+    match found {
+        SourceMove::Outside => {
+            return SourceStand::Left;
+        }
+        SourceMove::Goes(next) => {
+            return arrive(functions, row, next, depth, taken);
+        }
+        SourceMove::Chooses(on_yes, on_no) => {
+            if taken >= answers.len() {
+                return SourceStand::Stopped(row, at, depth);
+            }
+            if answers[taken] == 1 {
+                return arrive(functions, row, on_yes, depth, taken + 1);
+            }
+            return arrive(functions, row, on_no, depth, taken + 1);
+        }
+        SourceMove::Enters(to, back) => {
+            if depth >= frame_rows.len() {
+                return frameless(functions, to);
+            }
+            if depth >= frame_slots.len() {
+                return frameless(functions, to);
+            }
+            frame_rows[depth] = row;
+            frame_slots[depth] = back;
+            return arrive(functions, to, 0, depth + 1, taken);
+        }
+        SourceMove::Returns => {
+            if depth == 0 {
+                return SourceStand::Ended(row, at);
+            }
+            let top = depth - 1;
+            return arrive(functions, frame_rows[top], frame_slots[top], top, taken);
+        }
+        SourceMove::Stuck => {
+            return SourceStand::Stopped(row, at, depth);
+        }
+    }
+}
+
+// At most `limit` steps from the first slot of the root.
+pub fn source_run(
+    kinds: &[u8; 256],
+    code: &[u8],
+    symbols: &[u8],
+    functions: &[u8],
+    relocations: &[u8],
+    instructions: &[u8],
+    frame_rows: &mut [usize],
+    frame_slots: &mut [i64],
+    answers: &[u8],
+    root: usize,
+    limit: usize,
+) -> SourceStand
+    requires { ⌜ Source (now kinds) (now code) (now symbols) (now functions) (now relocations) (now instructions) ⌝ }
+    ensures { λ r. ⌜ Ran sourceFrames (inSource (objectOf (tablesIn (now (code .entry)) (now (symbols .entry)) (now (functions .entry)) (now (relocations .entry)) (now (instructions .entry))))) (length (now (answers .entry))) (lent (now («frame_rows» .entry)) (now («frame_slots» .entry))) (lent (now («frame_rows» .exit)) (now («frame_slots» .exit))) (sourceWalk (objectOf (tablesIn (now (code .entry)) (now (symbols .entry)) (now (functions .entry)) (now (relocations .entry)) (now (instructions .entry)))) root (answersIn (now (answers .entry)))) limit (stoodOf r) ⌝ }
+{
+    if slots_of(functions, root) == 0 {
+        return SourceStand::Left;
+    }
+    let mut row = root;
+    let mut at: i64 = 0;
+    let mut depth = 0;
+    let mut taken = 0;
+    let mut k = 0;
+    while k < limit {
+        let next = source_step(
+            kinds,
+            code,
+            symbols,
+            functions,
+            relocations,
+            instructions,
+            frame_rows,
+            frame_slots,
+            answers,
+            row,
+            at,
+            depth,
+            taken,
+        );
+        match next {
+            SourceStand::Standing(to, place, used, told) => {
+                row = to;
+                at = place;
+                depth = used;
+                taken = told;
+                k += 1;
+            }
+            SourceStand::Stopped(to, place, used) => {
+                return SourceStand::Stopped(to, place, used);
+            }
+            SourceStand::Ended(to, place) => {
+                return SourceStand::Ended(to, place);
+            }
+            SourceStand::Left => {
+                return SourceStand::Left;
+            }
+            SourceStand::NoFrame => {
+                return SourceStand::NoFrame;
+            }
+        }
+    }
+    SourceStand::Standing(row, at, depth, taken)
+}
+
+// The walk of the tables' functions, from the root's first slot, at most `limit` steps. Any bytes may be offered.
+pub fn walk_source(
+    code: &[u8],
+    symbols: &[u8],
+    functions: &[u8],
+    relocations: &[u8],
+    instructions: &[u8],
+    root: u32,
+    frame_rows: &mut [usize],
+    frame_slots: &mut [i64],
+    answers: &[u8],
+    limit: usize,
+) -> SourceRun
+    ensures { λ r. ⌜ SourceWalked (mapStepOffer (now (code .entry)) (now (symbols .entry)) (now (functions .entry)) (now (relocations .entry)) [] (now (instructions .entry))) root (lent (now («frame_rows» .entry)) (now («frame_slots» .entry))) (lent (now («frame_rows» .exit)) (now («frame_slots» .exit))) (now (answers .entry)) limit r ⌝ }
+{
+    let none = [0u8; 1];
+    let checked = check_map_step(
+        code,
+        symbols,
+        functions,
+        relocations,
+        &none[..0],
+        instructions,
+    );
+    let Answer::Done(_, _, _) = checked else {
+        return SourceRun::Refused(checked);
+    };
+    let row = root as usize;
+    if row >= functions.len() / FUNCTION_SIZE {
+        return SourceRun::Refused(Answer::NoRoot);
+    }
+    let kinds = table();
+    let stand = source_run(
+        &kinds,
+        code,
+        symbols,
+        functions,
+        relocations,
+        instructions,
+        frame_rows,
+        frame_slots,
+        answers,
+        row,
+        limit,
+    );
+    SourceRun::Came(stand)
+}
