@@ -5,7 +5,7 @@ CFLAGS_C = -std=c99 -O2 -Wall -Wextra -Werror -Iinclude -Itests
 ARCHIVE = target/staticlib/libbarkruffle.a
 C_OUT = target/c
 
-.PHONY: lib test-c bench
+.PHONY: lib test-c bench-c
 
 lib:
 	$(RT) staticlib barkruffle
@@ -32,6 +32,6 @@ test-c: $(C_OUT)/tests/abi $(C_OUT)/tests/stack $(C_OUT)/examples/daemon
 	else echo 'test-c: no valgrind here, runs under it left out'; fi
 
 # Figures, not a test.
-bench: $(C_OUT)/bench/link $(C_OUT)/bench/steps
+bench-c: $(C_OUT)/bench/link $(C_OUT)/bench/steps
 	$(C_OUT)/bench/link
 	$(C_OUT)/bench/steps
