@@ -1,6 +1,9 @@
 // A line for each slot of the image: its number, its bytes, the function and slot that it is a copy of, its line record.
+ghost use mathlib.Core.Path.{_≡_};
+ghost use mathlib.Core.Bool.{true};
 ghost use Prim.Native.Nat.{_+_, _*_, _≤_, _<_};
 ghost use lib.ListN.{length};
+ghost use Rattle.clerk.specs.Status.{either};
 use crate::status::DONE;
 use crate::status::NO_OUTPUT;
 use libc::STDOUT_FILENO;
@@ -106,7 +109,7 @@ fn rows(own: usize, pieces: &[u8], image: &[u8], lines: &[u8]) -> bool
 // `own` is the number of the root's line records; `pieces` are the copies' starts and rows.
 pub fn list(own: usize, pieces: &[u8], image: &[u8], lines: &[u8]) -> u32
     requires { ⌜ length (now image) ≤ 65536 ⌝ }
-    ensures { λ r. ⌜ r ≤ 4 ⌝ }
+    ensures { λ r. ⌜ (r ≤ 4) × (either 0 4 r ≡ true) ⌝ }
 {
     if rows(own, pieces, image, lines) {
         return DONE;

@@ -1,7 +1,9 @@
 // The tables file: eight u32 lengths, then the tables 1 to 8, and nothing after them.
 ghost use mathlib.Core.Path.{_≡_};
+ghost use mathlib.Core.Bool.{true};
 ghost use Prim.Native.Nat.{_≤_, _<_};
 ghost use lib.ListN.{length};
+ghost use Rattle.clerk.specs.Status.{either};
 use crate::status::DONE;
 use crate::status::NO_TABLES;
 use crate::telling;
@@ -34,7 +36,7 @@ fn read_all(fd: i32, buf: &mut [u8]) -> Got
 }
 
 pub fn read_lengths(fd: i32, lengths: &mut [u8; TABLE_LENGTHS]) -> u32
-    ensures { λ r. ⌜ (r ≤ 4) × (length (now (lengths .exit)) ≡ length (now (lengths .entry))) ⌝ }
+    ensures { λ r. ⌜ ((r ≤ 4) × (either 0 3 r ≡ true)) × (length (now (lengths .exit)) ≡ length (now (lengths .entry))) ⌝ }
 {
     let got = read_all(fd, lengths);
     match got {
@@ -55,7 +57,7 @@ pub fn read_lengths(fd: i32, lengths: &mut [u8; TABLE_LENGTHS]) -> u32
 // Table i + 1, at the start of `buf`.
 pub fn read_table(fd: i32, lengths: &[u8; TABLE_LENGTHS], i: usize, buf: &mut [u8]) -> u32
     requires { ⌜ i < 8 ⌝ }
-    ensures { λ r. ⌜ (r ≤ 4) × (length (now (buf .exit)) ≡ length (now (buf .entry))) ⌝ }
+    ensures { λ r. ⌜ ((r ≤ 4) × (either 0 3 r ≡ true)) × (length (now (buf .exit)) ≡ length (now (buf .entry))) ⌝ }
 {
     let needs = length_of(lengths, i);
     let table = i as u32 + 1;
@@ -82,7 +84,7 @@ pub fn read_table(fd: i32, lengths: &[u8; TABLE_LENGTHS], i: usize, buf: &mut [u
 
 // Nothing stands after the tables, and the file is closed.
 pub fn finish(fd: i32) -> u32
-    ensures { λ r. ⌜ r ≤ 4 ⌝ }
+    ensures { λ r. ⌜ (r ≤ 4) × (either 0 3 r ≡ true) ⌝ }
 {
     let mut more = [0u8; 1];
     let got = libc::read(fd, &mut more);

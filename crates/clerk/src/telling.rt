@@ -1,5 +1,8 @@
 // Every sentence that bark says: answers on standard output, and what went wrong on standard error.
+ghost use mathlib.Core.Path.{_≡_};
+ghost use mathlib.Core.Bool.{true};
 ghost use Prim.Native.Nat.{_≤_};
+ghost use Rattle.clerk.specs.Status.{either, statusOf};
 use crate::status::DONE;
 use crate::status::NO_OUTPUT;
 use crate::status::REFUSED;
@@ -98,7 +101,7 @@ fn place(told: Told) -> bool {
 // Standard output took the words, or it is said that it did not.
 fn ended(written: bool, status: u32) -> u32
     requires { ⌜ status ≤ 4 ⌝ }
-    ensures { λ r. ⌜ r ≤ 4 ⌝ }
+    ensures { λ r. ⌜ (r ≤ 4) × (either status 4 r ≡ true) ⌝ }
 {
     if written {
         return status;
@@ -107,32 +110,53 @@ fn ended(written: bool, status: u32) -> u32
     NO_OUTPUT
 }
 
-pub fn map_step(told: Told) -> u32
-    ensures { λ r. ⌜ r ≤ 4 ⌝ }
+fn status_of(told: Told) -> u32
+    ensures { λ r. ⌜ (r ≡ statusOf told) × (r ≤ 4) ⌝ }
 {
-    let begun = say(b"map step");
-    if let Told::Done(applied, _, _) = told {
-        let written = begun && count(b": done (0): relocations applied: ", applied) && say(b"\n");
-        return ended(written, DONE);
+    match told {
+        Told::Done(_, _, _) => DONE,
+        Told::AtTable { .. } => REFUSED,
+        Told::AtRow { .. } => REFUSED,
+        Told::AtSlot { .. } => REFUSED,
+        Told::AtCall { .. } => REFUSED,
+        Told::AtFunction { .. } => REFUSED,
+        Told::AtRecord { .. } => REFUSED,
+        Told::Nowhere(_) => REFUSED,
     }
-    let written = begun && place(told) && say(b"\n");
-    ended(written, REFUSED)
 }
 
-pub fn link(root: u32, told: Told) -> u32
-    ensures { λ r. ⌜ r ≤ 4 ⌝ }
+fn map_step_words(told: Told) -> bool {
+    let begun = say(b"map step");
+    if let Told::Done(applied, _, _) = told {
+        return begun && count(b": done (0): relocations applied: ", applied) && say(b"\n");
+    }
+    begun && place(told) && say(b"\n")
+}
+
+pub fn map_step(told: Told) -> u32
+    ensures { λ r. ⌜ (r ≤ 4) × (either (statusOf told) 4 r ≡ true) ⌝ }
 {
+    let status = status_of(told);
+    ended(map_step_words(told), status)
+}
+
+fn link_words(root: u32, told: Told) -> bool {
     let begun = count(b"link of function ", root);
     if let Told::Done(slots, functions, lines) = told {
-        let written = begun
+        return begun
             && count(b": done (0): slots: ", slots)
             && count(b", function records: ", functions)
             && count(b", line records: ", lines)
             && say(b"\n");
-        return ended(written, DONE);
     }
-    let written = begun && place(told) && say(b"\n");
-    ended(written, REFUSED)
+    begun && place(told) && say(b"\n")
+}
+
+pub fn link(root: u32, told: Told) -> u32
+    ensures { λ r. ⌜ (r ≤ 4) × (either (statusOf told) 4 r ≡ true) ⌝ }
+{
+    let status = status_of(told);
+    ended(link_words(root, told), status)
 }
 
 fn complain(words: &[u8]) -> bool {

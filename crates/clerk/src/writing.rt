@@ -1,6 +1,9 @@
 // The image file: three u32 lengths, then the three runs.
+ghost use mathlib.Core.Path.{_≡_};
+ghost use mathlib.Core.Bool.{true};
 ghost use Prim.Native.Nat.{_≤_};
 ghost use lib.ListN.{length};
+ghost use Rattle.clerk.specs.Status.{either};
 use crate::status::DONE;
 use crate::status::NO_OUTPUT;
 use crate::telling;
@@ -22,7 +25,7 @@ fn put(fd: i32, image: &[u8], func_info: &[u8], line_info: &[u8]) -> bool
 // Writes the file that the third argument names. What does not get there whole is said.
 pub fn write_image(image: &[u8], func_info: &[u8], line_info: &[u8]) -> u32
     requires { ⌜ (length (now image) ≤ 65536) × ((length (now «func_info») ≤ 65536) × (length (now «line_info») ≤ 65536)) ⌝ }
-    ensures { λ r. ⌜ r ≤ 4 ⌝ }
+    ensures { λ r. ⌜ (r ≤ 4) × (either 0 4 r ≡ true) ⌝ }
 {
     let mut path = [0u8; PATH];
     let n = os::arg(3, &mut path);
