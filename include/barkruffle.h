@@ -5,8 +5,9 @@
  *
  * Buffers. A buffer is a pointer and a length in bytes. A buffer of length 0 may have any pointer, NULL too.
  * No buffer of bytes needs alignment; rows of struct barkruffle_symbol stand where C puts them, at a multiple of 8.
- * A buffer that is lent to be written (not const) must overlap no other buffer of the same call. Buffers that are only read may overlap each other. Nothing is kept after a call returns, and
- * no function has state of its own: calls from several threads at once are fine on buffers that are not shared.
+ * A buffer that is lent to be written (not const) must overlap no other buffer of the same call. Buffers that are only
+ * read may overlap each other. Nothing is kept after a call returns, and no function has state of its own: calls from
+ * several threads at once are fine on buffers that are not shared.
  *
  * Byte order. All tables, records and places are little-endian. The archive is for x86-64.
  *
@@ -16,8 +17,7 @@
  *
  * Stack. A link recurses once for each function that it appends, 64 at most. The deepest, a chain of 64 functions
  * that ends in a call of the root, was measured at 103,896 bytes, with rows at 103,960; give a thread that links 128 KiB
- * beside its own.
- * No other function here recurses. tests/stack.c measures it, and fails past 128 KiB.
+ * beside its own. No other function here recurses. tests/stack.c measures it, and fails past 128 KiB.
  *
  * The tables, by number, with the bytes of a row and the most rows:
  *   1 code sections       4    64   number u32; strictly rising
