@@ -16,7 +16,9 @@ include mk/bark.mk
 test: test-c compare-short test-fuzz test-bark
 	@rt ci
 
-demo: demo-bark $(C_OUT)/examples/daemon
+demo: bark $(C_OUT)/examples/daemon
+	@echo
+	@sh examples/bark.sh $(BARK)
 	@echo
 	@echo "The example daemon (examples/daemon.c): a map step, a link, two readers, through the C entries."
 	@$(C_OUT)/examples/daemon

@@ -1,16 +1,13 @@
-# The tool bark, its demo and its test. The proved library `tool` gives the exit status, and tools/bark.c hands it on.
+# The tool bark and its test. The proved library `tool` gives the exit status, and tools/bark.c hands it on.
 BARK = target/c/bark
 OS_C = $(dir $(shell $(RT) doc))../lib/libos_c.a
 
-.PHONY: bark demo-bark test-bark
+.PHONY: bark test-bark
 
 bark:
 	$(RT) staticlib tool
 	mkdir -p $(dir $(BARK))
 	$(GCC) $(CFLAGS_C) -o $(BARK) tools/bark.c target/staticlib/libtool.a $(OS_C)
-
-demo-bark: bark
-	@sh examples/bark.sh $(BARK)
 
 # Every way of bark to end, and its words. The image is held to what an independent model makes of the same tables, and so are
 # the words, the listing and the image of random objects.
