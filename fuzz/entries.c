@@ -133,6 +133,17 @@ static void as_model(const struct left *full, struct answer want)
     hold(memcmp(full->answer.places, want.places, sizeof want.places) == 0, "other places than document 01's");
 }
 
+/* An input as the model takes it; good until the next call. */
+static const struct run *tables_of(const struct input *in)
+{
+    static struct run table[9];
+    for (int t = 1; t <= 8; t++)
+        table[t] = (struct run){in->table[t].at, in->table[t].len};
+    return table;
+}
+
+static struct run data_of(const struct input *in) { return (struct run){in->data.at, in->data.len}; }
+
 /* What document 01 says of a refusal of either step without looking into any row. */
 static void plain_rules(const struct input *in, int last, int but, const struct answer *a)
 {
@@ -208,7 +219,7 @@ static void try_maps(struct input *in)
     plain_rules(in, 6, 0, &two.answer);
     if (two.answer.number == 0)
         only_rewritten(in, &two);
-    as_model(&two, model_maps(in->table, mapped));
+    as_model(&two, model_maps(tables_of(in), mapped));
     hold(same(one.out[0], mapped, in->table[6].len), "other bytes than document 01's");
     count(two.answer);
     if (in->maps_first)
@@ -336,7 +347,7 @@ static void try_link(struct input *in)
     }
     if (two.answer.number != 11)
         try_larger(in, &two);
-    as_model(&two, model_link(in->table, in->root, in->out_len, outs));
+    as_model(&two, model_link(tables_of(in), in->root, in->out_len, outs));
     for (int i = 0; i < 3; i++)
         hold(same(two.out[i], want[i], in->out_len[i]), "other bytes than document 01's");
     count(two.answer);
@@ -373,7 +384,7 @@ static void rows_as_model(const struct input *in, size_t scratch_len, const stru
 {
     static uint8_t want[3][MOST];
     uint8_t *const outs[3] = {want[0], want[1], want[2]};
-    as_model(got, model_link_rows(in->table, in->root, in->out_len, outs, scratch_len));
+    as_model(got, model_link_rows(tables_of(in), in->root, in->out_len, outs, scratch_len));
     for (int i = 0; i < 3; i++)
         hold(same(got->out[i], want[i], in->out_len[i]), "other bytes than document 01's");
 }
@@ -454,7 +465,7 @@ static void try_rows(reader *rows, size_t row, const struct input *in)
         size_t used = two.answer.places[0] * row;
         hold(used <= in->rows_len && all_zero(two.out[0] + used, in->rows_len - used), "not zero after the rows");
     }
-    as_model(&two, model_read(row, in->size, in->count, &in->data, want, in->rows_len));
+    as_model(&two, model_read(row, in->size, in->count, data_of(in), want, in->rows_len));
     hold(same(two.out[0], want, in->rows_len), "other bytes than document 01's");
     count(two.answer);
 }
@@ -473,7 +484,7 @@ static struct barkruffle_part find_once(finder *record, const struct input *in, 
 static void try_record(finder *record, size_t row, const struct input *in)
 {
     struct barkruffle_part p = find_once(record, in, &first), q = find_once(record, in, &again);
-    struct answer want = model_record(row, in->size, in->count, &in->data, in->k);
+    struct answer want = model_record(row, in->size, in->count, data_of(in), in->k);
     hold(p.at == q.at && p.len == q.len, "called twice, another part");
     hold(p.len <= in->data.len && p.at <= in->data.len - p.len, "a part that is not inside the data");
     if (want.number)
@@ -498,7 +509,7 @@ static void try_number(teller *number_of, finder *record, size_t row, const stru
     number_once(number_of, in, again, BARKRUFFLE_PLACES, &two);
     same_answer(&one, in->places_len, &two);
     hold((two.answer.number == 0) == (find_once(record, in, &first).len != 0), "the number of a record is not its part's");
-    as_model(&two, model_record(row, in->size, in->count, &in->data, in->k));
+    as_model(&two, model_record(row, in->size, in->count, data_of(in), in->k));
     count(two.answer);
 }
 

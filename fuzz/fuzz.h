@@ -1,15 +1,15 @@
-/* What the files of the fuzz harness share: an input cut into buffers, what document 01 answers to it, buffers lent
- * between guards, and the runs. */
+/* What the files of the fuzz harness share: an input cut into buffers, buffers lent between guards, and the runs. What
+ * document 01 answers to an input is model.h. */
 #ifndef BARKRUFFLE_FUZZ_H
 #define BARKRUFFLE_FUZZ_H
 
 #include <stddef.h>
 #include <stdint.h>
 #include "barkruffle.h"
+#include "model.h"
 
 /* More bytes than the limit of any table or output. */
 #define MOST 73728
-#define NONE 0xffffffffu
 
 struct bytes {
     uint8_t at[MOST];
@@ -29,25 +29,9 @@ struct input {
     int shared;     /* in the link, tables 7 and 8 are lent as the start of table 6 */
 };
 
-struct answer {
-    uint32_t number;
-    uint32_t places[3];
-};
-
 /* cut.c: the first byte chooses raw bytes, raw bytes repaired, or a generator. */
 enum { CUT_RAW, CUT_REPAIRED, CUT_GENERATED, CUTS };
 int cut(struct input *in, const uint8_t *data, size_t len);
-
-/* model.c: document 01, literally. Outputs are written whole. */
-extern const size_t row_size[9], most_rows[9];
-uint32_t u32_at(const uint8_t *p);
-uint64_t u64_at(const uint8_t *p);
-struct answer model_maps(const struct bytes *table, uint8_t *instructions);
-struct answer model_link(const struct bytes *table, uint32_t root, const size_t *out_len, uint8_t *const *out);
-struct answer model_link_rows(const struct bytes *table, uint32_t root, const size_t *out_len, uint8_t *const *out,
-                              size_t scratch_len);
-struct answer model_read(size_t row, uint32_t size, uint32_t count, const struct bytes *data, uint8_t *out, size_t out_len);
-struct answer model_record(size_t row, uint32_t size, uint32_t count, const struct bytes *data, uint32_t k);
 
 /* lend.c: each buffer of a call lies at an unmapped page, with its end or with its start, or at an odd address; guard
  * bytes fill what is mapped around it, and what is only read is lent through a mapping that cannot be written. Or all lie

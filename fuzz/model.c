@@ -1,8 +1,9 @@
 /* Document 01 as a literal program: what each entry answers, and what its outputs then hold. It is slow on purpose: every
- * search starts at the table's first row. Being compiled with the harness, it also shows the fuzzer which rules an input
- * reaches, which the archive does not. */
+ * search starts at the table's first row. The fuzz harness and the comparison with the Rust files (compare/) share it. Being
+ * compiled with the harness, it also shows the fuzzer which rules an input reaches, which the archive does not. */
 #include <string.h>
-#include "fuzz.h"
+#include "barkruffle.h"
+#include "model.h"
 
 const size_t row_size[9] = {0, 4, 24, 32, 24, 16, 8, 8, 16};
 const size_t most_rows[9] = {0, 64, 1024, 64, 1024, 64, 8192, 256, 4096};
@@ -34,8 +35,8 @@ static struct answer answer(uint32_t number, size_t a, size_t b)
     return r;
 }
 
-static size_t rows_of(const struct bytes *table, int t) { return table[t].len / row_size[t]; }
-static const uint8_t *row_of(const struct bytes *table, int t, size_t k) { return table[t].at + k * row_size[t]; }
+static size_t rows_of(const struct run *table, int t) { return table[t].len / row_size[t]; }
+static const uint8_t *row_of(const struct run *table, int t, size_t k) { return table[t].at + k * row_size[t]; }
 
 /* ---- the checks: 1, 2 and 13 */
 
@@ -53,7 +54,7 @@ static int is_address(uint64_t v) { return v < (uint64_t)1 << 48; }
 /* Pairs (section, number) that rise strictly. */
 static int rises(uint32_t s, uint64_t v, uint32_t then_s, uint64_t then_v) { return s < then_s || (s == then_s && v < then_v); }
 
-static int broken_map(const struct bytes *table, size_t k)
+static int broken_map(const struct run *table, size_t k)
 {
     const uint8_t *r = row_of(table, 5, k);
     if (!is_section(u32_at(r)) || r[12] > 1 || !is_zero(r + 13, 3))
@@ -66,7 +67,7 @@ static int broken_map(const struct bytes *table, size_t k)
     return 0;
 }
 
-static int broken_row(const struct bytes *table, int t, size_t k)
+static int broken_row(const struct run *table, int t, size_t k)
 {
     const uint8_t *r = row_of(table, t, k), *q = k ? r - row_size[t] : NULL;
     switch (t) {
@@ -87,7 +88,7 @@ static int broken_row(const struct bytes *table, int t, size_t k)
     }
 }
 
-static uint64_t total(const struct bytes *table, size_t field)
+static uint64_t total(const struct run *table, size_t field)
 {
     uint64_t sum = 0;
     for (size_t k = 0; k < rows_of(table, 3); k++)
@@ -95,7 +96,7 @@ static uint64_t total(const struct bytes *table, size_t field)
     return sum;
 }
 
-static struct answer check_table(const struct bytes *table, int t)
+static struct answer check_table(const struct run *table, int t)
 {
     if (t >= 6)
         return table[t].len == row_size[t] * total(table, t == 6 ? 4 : t == 7 ? 24 : 28) ? answer(0, 0, 0) : answer(2, (size_t)t, 0);
@@ -106,7 +107,7 @@ static struct answer check_table(const struct bytes *table, int t)
 }
 
 /* The tables up to `last`, but for one. */
-static struct answer check(const struct bytes *table, int last, int but)
+static struct answer check(const struct run *table, int last, int but)
 {
     for (int t = 1; t <= last; t++)
         if (t != but && (table[t].len + row_size[t] - 1) / row_size[t] > most_rows[t])
@@ -128,7 +129,7 @@ struct function {
     size_t slot, func, line; /* its first in tables 6 to 8 */
 };
 
-static struct function function_at(const struct bytes *table, size_t row)
+static struct function function_at(const struct run *table, size_t row)
 {
     const uint8_t *r = row_of(table, 3, row);
     struct function f = {u32_at(r), u32_at(r + 4), u64_at(r + 8), u64_at(r + 16), u32_at(r + 24), u32_at(r + 28), 0, 0, 0};
@@ -150,7 +151,7 @@ static int is_wide_load(const uint8_t *slots, size_t n, size_t k)
 
 static void set_source(uint8_t *slot, int source) { slot[1] = (uint8_t)(source << 4 | (slot[1] & 15)); }
 
-static const uint8_t *find_symbol(const struct bytes *table, uint32_t index)
+static const uint8_t *find_symbol(const struct run *table, uint32_t index)
 {
     for (size_t k = 0; k < rows_of(table, 2); k++)
         if (u32_at(row_of(table, 2, k)) == index)
@@ -158,7 +159,7 @@ static const uint8_t *find_symbol(const struct bytes *table, uint32_t index)
     return NULL;
 }
 
-static int is_code(const struct bytes *table, uint32_t section)
+static int is_code(const struct run *table, uint32_t section)
 {
     for (size_t k = 0; k < rows_of(table, 1); k++)
         if (section != NONE && u32_at(row_of(table, 1, k)) == section)
@@ -168,7 +169,7 @@ static int is_code(const struct bytes *table, uint32_t section)
 
 /* ---- the map step */
 
-static const uint8_t *find_map(const struct bytes *table, const uint8_t *symbol)
+static const uint8_t *find_map(const struct run *table, const uint8_t *symbol)
 {
     for (size_t k = 0; k < rows_of(table, 5); k++)
         if (u32_at(row_of(table, 5, k) + 4) != NONE && u32_at(row_of(table, 5, k) + 4) == u32_at(symbol))
@@ -179,68 +180,96 @@ static const uint8_t *find_map(const struct bytes *table, const uint8_t *symbol)
     return NULL;
 }
 
-enum { SKIPPED = 100, APPLIED };
+/* What a relocation that applies writes, and where. */
+struct change {
+    size_t slot;
+    const uint8_t *map;
+    int64_t value;
+};
 
-/* One relocation of one function: a refusal, SKIPPED or APPLIED. */
-static uint32_t map_one(const struct bytes *table, const struct function *f, const uint8_t *relocation, uint8_t *slots, size_t *at)
+/* One relocation of one function: a refusal, MODEL_SKIPPED or MODEL_APPLIED. */
+static uint32_t judge(const struct run *table, const struct function *f, const uint8_t *relocation, const uint8_t *slots,
+                      struct change *c)
 {
     uint64_t offset = u64_at(relocation + 8);
     if (u32_at(relocation) != f->section || offset < f->offset || offset - f->offset >= 8 * (uint64_t)f->slots)
-        return SKIPPED;
-    *at = (size_t)(offset - f->offset) / 8;
+        return MODEL_SKIPPED;
+    c->slot = (size_t)(offset - f->offset) / 8;
     if (offset % 8)
         return 4;
-    const uint8_t *symbol = find_symbol(table, u32_at(relocation + 4));
+    const uint8_t *symbol = find_symbol(table, u32_at(relocation + 4)), *slot = slots + 8 * c->slot;
     if (!symbol)
         return 3;
-    uint8_t *slot = slots + 8 * *at;
     if (u32_at(symbol + 4) == NONE || is_call(slot) || is_code(table, u32_at(symbol + 4)))
-        return SKIPPED;
-    const uint8_t *map = symbol[16] == TEXT ? NULL : find_map(table, symbol);
-    if (!map)
+        return MODEL_SKIPPED;
+    c->map = symbol[16] == TEXT ? NULL : find_map(table, symbol);
+    if (!c->map)
         return 5;
-    if (!is_wide_load(slots, f->slots, *at))
+    if (!is_wide_load(slots, f->slots, c->slot))
         return 6;
-    int64_t value = immediate(slot) + (int64_t)u64_at(symbol + 8);
-    if (map[12] && (value < INT32_MIN || value > INT32_MAX))
+    c->value = immediate(slot) + (int64_t)u64_at(symbol + 8);
+    if (c->map[12] && (c->value < INT32_MIN || c->value > INT32_MAX))
         return 7;
-    set_source(slot, map[12] ? 2 : 1);
-    if (map[12])
-        put_u32(slot + 12, value);
-    memcpy(slot + 4, map + 8, 4);
-    return APPLIED;
+    return MODEL_APPLIED;
+}
+
+static void apply(const struct change *c, uint8_t *slots)
+{
+    uint8_t *slot = slots + 8 * c->slot;
+    set_source(slot, c->map[12] ? 2 : 1);
+    if (c->map[12])
+        put_u32(slot + 12, c->value);
+    memcpy(slot + 4, c->map + 8, 4);
+}
+
+uint32_t model_judge(const struct run *table, size_t row, size_t relocation)
+{
+    struct function f = function_at(table, row);
+    struct change c;
+    return judge(table, &f, row_of(table, 4, relocation), row_of(table, 6, f.slot), &c);
+}
+
+static struct answer rewrite(const struct run *table, uint8_t *instructions)
+{
+    size_t applied = 0;
+    for (size_t row = 0; row < rows_of(table, 3); row++) {
+        struct function f = function_at(table, row);
+        uint8_t *slots = instructions + 8 * f.slot;
+        for (size_t k = 0; k < rows_of(table, 4); k++) {
+            struct change c;
+            uint32_t judged = judge(table, &f, row_of(table, 4, k), slots, &c);
+            if (judged < MODEL_SKIPPED)
+                return answer(judged, row, c.slot);
+            if (judged == MODEL_APPLIED) {
+                apply(&c, slots);
+                applied++;
+            }
+        }
+    }
+    return answer(0, applied, 0);
 }
 
 /* Rewrites a copy; two functions whose bytes overlap have slots of their own each. */
-struct answer model_maps(const struct bytes *table, uint8_t *instructions)
+struct answer model_maps(const struct run *table, uint8_t *instructions)
 {
-    static uint8_t work[MOST];
     struct answer a = check(table, 6, 0);
-    size_t applied = 0;
-    memcpy(instructions, table[6].at, table[6].len);
+    if (table[6].len)
+        memcpy(instructions, table[6].at, table[6].len);
     if (a.number)
         return a;
-    memcpy(work, table[6].at, table[6].len);
-    for (size_t row = 0; row < rows_of(table, 3); row++) {
-        struct function f = function_at(table, row);
-        for (size_t k = 0; k < rows_of(table, 4); k++) {
-            size_t at = 0;
-            uint32_t done = map_one(table, &f, row_of(table, 4, k), work + 8 * f.slot, &at);
-            if (done < SKIPPED)
-                return answer(done, row, at);
-            applied += done == APPLIED;
-        }
-    }
-    memcpy(instructions, work, table[6].len);
-    return answer(0, applied, 0);
+    a = rewrite(table, instructions);
+    if (a.number && table[6].len)
+        memcpy(instructions, table[6].at, table[6].len);
+    return a;
 }
 
 /* ---- the link step */
 
 struct linker {
-    const struct bytes *table;
+    const struct run *table;
     const size_t *out_len;
     uint8_t *const *out;
+    struct reached *reached;
     size_t used[3]; /* slots, function records, line records */
     int is_placed[64];
     size_t start[64];
@@ -265,8 +294,10 @@ static int has_room(const struct linker *l, const struct function *f)
 static void copy_in(struct linker *l, const struct function *f)
 {
     memcpy(l->out[0] + 8 * l->used[0], row_of(l->table, 6, f->slot), 8 * (size_t)f->slots);
-    memcpy(l->out[1] + 8 * l->used[1], row_of(l->table, 7, f->func), 8 * (size_t)f->funcs);
-    memcpy(l->out[2] + 16 * l->used[2], row_of(l->table, 8, f->line), 16 * (size_t)f->lines);
+    if (f->funcs)
+        memcpy(l->out[1] + 8 * l->used[1], row_of(l->table, 7, f->func), 8 * (size_t)f->funcs);
+    if (f->lines)
+        memcpy(l->out[2] + 16 * l->used[2], row_of(l->table, 8, f->line), 16 * (size_t)f->lines);
     l->used[0] += f->slots;
     l->used[1] += f->funcs;
     l->used[2] += f->lines;
@@ -353,6 +384,7 @@ static int visit_slot(struct linker *l, size_t row, size_t start, size_t k)
         callee++;
     if (callee == rows_of(l->table, 3))
         return refuse(l, 10, row, k);
+    l->reached->row[l->reached->count++] = (uint32_t)callee;
     if (!l->is_placed[callee] && !append(l, callee))
         return 0;
     uint8_t *slot = l->out[0] + 8 * (start + k);
@@ -372,8 +404,6 @@ static int visit(struct linker *l, size_t row, size_t start)
 
 static int link_root(struct linker *l, uint32_t root)
 {
-    if (root >= rows_of(l->table, 3))
-        return refuse(l, 13, 0, 0);
     struct function f = function_at(l->table, root);
     if (!has_room(l, &f))
         return refuse(l, 11, root, 0);
@@ -381,60 +411,79 @@ static int link_root(struct linker *l, uint32_t root)
     return visit(l, root, 0);
 }
 
-struct answer model_link(const struct bytes *table, uint32_t root, const size_t *out_len, uint8_t *const *out)
+struct answer model_check_link(const struct run *table, uint32_t root)
 {
-    struct linker l = {table, out_len, out, {0, 0, 0}, {0}, {0}, check(table, 8, 5)};
+    struct answer a = check(table, 8, 5);
+    return a.number == 0 && root >= rows_of(table, 3) ? answer(13, 0, 0) : a;
+}
+
+static void wipe(const size_t *out_len, uint8_t *const *out)
+{
     for (int i = 0; i < 3; i++)
-        memset(out[i], 0, out_len[i]);
+        if (out_len[i])
+            memset(out[i], 0, out_len[i]);
+}
+
+struct answer model_link_reaching(const struct run *table, uint32_t root, const size_t *out_len, uint8_t *const *out,
+                                  struct reached *reached)
+{
+    struct linker l = {table, out_len, out, reached, {0, 0, 0}, {0}, {0}, model_check_link(table, root)};
+    reached->count = 0;
+    wipe(out_len, out);
     if (l.refusal.number == 0 && link_root(&l, root)) {
         struct answer a = {0, {(uint32_t)l.used[0], (uint32_t)l.used[1], (uint32_t)l.used[2]}};
         return a;
     }
-    for (int i = 0; i < 3; i++)
-        memset(out[i], 0, out_len[i]);
+    wipe(out_len, out);
     return l.refusal;
+}
+
+struct answer model_link(const struct run *table, uint32_t root, const size_t *out_len, uint8_t *const *out)
+{
+    struct reached reached;
+    return model_link_reaching(table, root, out_len, out, &reached);
 }
 
 /* The link with table 2 lent as rows: 32 before all else where a scratch has no room for them, or for one more than table 2
  * may have. */
-struct answer model_link_rows(const struct bytes *table, uint32_t root, const size_t *out_len, uint8_t *const *out,
+struct answer model_link_rows(const struct run *table, uint32_t root, const size_t *out_len, uint8_t *const *out,
                               size_t scratch_len)
 {
     size_t rows = rows_of(table, 2) > most_rows[2] + 1 ? most_rows[2] + 1 : rows_of(table, 2);
     if (scratch_len >= rows * row_size[2])
         return model_link(table, root, out_len, out);
-    for (int i = 0; i < 3; i++)
-        memset(out[i], 0, out_len[i]);
+    wipe(out_len, out);
     return answer(BARKRUFFLE_SHORT_SCRATCH, 0, 0);
 }
 
 /* ---- the readers: rows of 8 bytes are function records, of 16 line records */
 
-static int broken_info(size_t row, uint32_t size, uint32_t count, const struct bytes *data)
+static int broken_info(size_t row, uint32_t size, uint32_t count, struct run data)
 {
-    if (size < row || (uint64_t)count * size != data->len)
+    if (size < row || (uint64_t)count * size != data.len)
         return 1;
     for (size_t k = 0; k < count; k++)
-        if (u32_at(data->at + k * size) % 8)
+        if (u32_at(data.at + k * size) % 8)
             return 1;
     return 0;
 }
 
-struct answer model_read(size_t row, uint32_t size, uint32_t count, const struct bytes *data, uint8_t *out, size_t out_len)
+struct answer model_read(size_t row, uint32_t size, uint32_t count, struct run data, uint8_t *out, size_t out_len)
 {
-    memset(out, 0, out_len);
+    if (out_len)
+        memset(out, 0, out_len);
     if (broken_info(row, size, count, data))
         return answer(14, 0, 0);
     if (count * row > out_len)
         return answer(11, 0, 0);
     for (size_t k = 0; k < count; k++) {
-        memcpy(out + k * row, data->at + k * size, row);
-        put_u32(out + k * row, u32_at(data->at + k * size) / 8);
+        memcpy(out + k * row, data.at + k * size, row);
+        put_u32(out + k * row, u32_at(data.at + k * size) / 8);
     }
     return answer(0, count, 0);
 }
 
-struct answer model_record(size_t row, uint32_t size, uint32_t count, const struct bytes *data, uint32_t k)
+struct answer model_record(size_t row, uint32_t size, uint32_t count, struct run data, uint32_t k)
 {
     return broken_info(row, size, count, data) || k >= count ? answer(14, 0, 0) : answer(0, count, 0);
 }

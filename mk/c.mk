@@ -1,4 +1,4 @@
-# The archive for C, and the C programs that hold it to its header. `make test` calls test-c before rt ci.
+# The archive for C, and the C programs that hold it to its header. The gate calls test-c after rt ci.
 RT ?= rt
 GCC ?= gcc
 CFLAGS_C = -std=c99 -O2 -Wall -Wextra -Werror -Iinclude -Itests
@@ -8,7 +8,7 @@ C_OUT = target/c
 .PHONY: lib test-c bench-c
 
 lib:
-	$(RT) staticlib barkruffle
+	@RT="$(RT)" sh tools/archive barkruffle
 
 $(C_OUT)/%: %.c tests/tables.h include/barkruffle.h lib
 	mkdir -p $(dir $@)

@@ -7,7 +7,7 @@ COMPARE = target/compare/release/compare
 .PHONY: compare compare-short compare-build bench-compare
 
 compare-build: lib
-	cd compare && AYA_OBJ_SRC=$(abspath $(AYA_OBJ_SRC)) $(CARGO) build --quiet --offline --locked --release --target-dir ../target/compare
+	cd compare && GCC="$(GCC)" AYA_OBJ_SRC=$(abspath $(AYA_OBJ_SRC)) $(CARGO) build --quiet --offline --locked --release --target-dir ../target/compare
 
 # A million objects, and each fault put into our answers on purpose.
 compare: compare-build

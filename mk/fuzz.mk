@@ -28,10 +28,10 @@ fuzz-named:
 	  sed 's/"[^"]*"//g' fuzz/entries.c | grep -qw "$$f" && grep -q "\"$$f\"" fuzz/entries.c || \
 	  { echo "fuzz: fuzz/entries.c does not call $$f"; exit 1; }; done
 
-$(FUZZ_OUT)/entries: fuzz/main.c $(FUZZ_PLAIN) fuzz/fuzz.h include/barkruffle.h mk/fuzz.mk lib | fuzz-named
+$(FUZZ_OUT)/entries: fuzz/main.c $(FUZZ_PLAIN) fuzz/fuzz.h fuzz/model.h include/barkruffle.h mk/fuzz.mk lib | fuzz-named
 	$(GCC) $(CFLAGS_FUZZ) -o $@ fuzz/main.c $(FUZZ_PLAIN) $(ARCHIVE)
 
-$(FUZZ_OUT)/wrong: fuzz/wrong.c $(FUZZ_PLAIN) fuzz/fuzz.h include/barkruffle.h mk/fuzz.mk lib | fuzz-named
+$(FUZZ_OUT)/wrong: fuzz/wrong.c $(FUZZ_PLAIN) fuzz/fuzz.h fuzz/model.h include/barkruffle.h mk/fuzz.mk lib | fuzz-named
 	$(GCC) $(CFLAGS_FUZZ) -o $@ fuzz/wrong.c $(FUZZ_PLAIN) $(ARCHIVE) $(FUZZ_ENTRIES:%=-Wl,--wrap=%)
 
 test-fuzz: fuzz-bites $(FUZZ_OUT)/entries

@@ -15,7 +15,7 @@ run() {
 }
 
 run logger.tables 4 logger.image
-cmp logger.image "$here/examples/logger.image" && echo "the image is the model's"
+cmp logger.image "$here/tests/logger.image" && echo "the image is the model's"
 run forged.tables 4 forged.image
 [ -e forged.image ] || echo "no image was written"
 run logger.tables 2 leaf.image

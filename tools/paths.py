@@ -6,10 +6,10 @@ writes crates/paths/stdin, the objects, and crates/paths/stdout, for each object
 both paths as tools/model.py (the independent model of document 01's two steps)
 and the two walks below have them.
 
-The stream is little-endian.  An object starts with 12 u32: [0] 0; [1] the length
-of its name; [2..7] byte lengths of tables 1 to 6; [8] the number of answers; [9]
-root; [10] how many lines at most; [11] 0.  Then come the name, the
-tables' bytes in order, and the answers, 1 for yes.  Each walk is lent four frames.
+The stream is little-endian.  An object starts with 4 u32: the length of its name,
+the number of its answers, the root, and how many lines at most.  Then come the
+name, the answers, 1 for yes, and a tables file as the tool bark reads one: eight
+u32 lengths and the tables 1 to 8.  Each walk is lent four frames.
 
 A line has the steps made; row, slot, depth and bytes of the source walk; slot,
 depth and bytes of the image walk.  Where a walk does not stand it says why, and
@@ -192,12 +192,16 @@ OBJECTS = [
 ]
 
 
+def u32s(words):
+    return b"".join(w.to_bytes(4, "little") for w in words)
+
+
 def main():
     stream, lines = bytearray(), []
     for name, tables, answers, limit in OBJECTS:
-        parts = [name.encode()] + [tables.data(k) for k in range(1, 7)] + [bytes(answers)]
-        words = [0] + [len(p) for p in parts] + [0, limit, 0]
-        stream += b"".join(w.to_bytes(4, "little") for w in words) + b"".join(parts)
+        data = [tables.data(k) for k in range(1, 9)]
+        words = [len(name), len(answers), 0, limit]
+        stream += u32s(words) + name.encode() + bytes(answers) + u32s(map(len, data)) + b"".join(data)
         lines += [name] + paths(tables, 0, answers, limit) + [""]
     where = os.path.join(os.path.dirname(os.path.dirname(os.path.abspath(__file__))), "crates", "paths")
     with open(os.path.join(where, "stdin"), "wb") as out:

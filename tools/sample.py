@@ -1,7 +1,7 @@
 """The sample objects that bark is shown on: a logger for the key device, and the same logger forged.
 
 python3 tools/sample.py   writes examples/logger.tables and examples/forged.tables; by the independent model (tools/bark_model.py)
-                          examples/logger.image; for the gate's run crates/bark/data and stdout; and tests/bark, files that bark
+                          tests/logger.image; for the gate's run crates/bark/data and stdout; and tests/bark, files that bark
                           must turn down, which tests/bark.sh runs
 
 A tables file has eight u32 lengths, then the tables 1 to 8. The logger, as its source would read:
@@ -152,7 +152,7 @@ def main():
     put(os.path.join(here, "examples", "forged.tables"), tables_file(forged()))
     put(os.path.join(here, "crates", "bark", "data", "logger.tables"), tables_file(logger()))
     _, said, image = expected(logger(), ROOT)
-    put(os.path.join(here, "examples", "logger.image"), image)
+    put(os.path.join(here, "tests", "logger.image"), image)
     put(os.path.join(here, "crates", "bark", "stdout"), said.encode())
     cases(os.path.join(here, "tests", "bark"))
 

@@ -1,7 +1,6 @@
 //! One object through both: our two steps, the crate's two, what document 01 says, and where they differ.
 use crate::{
     domain::{self, Said},
-    model::Refused,
     ours::{self, Linked, Mapped},
     tables::{Case, Rows, Steps, u32_at},
     theirs::{self, Ended, Ran},
@@ -35,11 +34,7 @@ pub struct Both {
 pub fn run(case: &Case, bite: Option<Bite>) -> Both {
     let rows = Rows::of(&case.bytes);
     let said = domain::say(case, &rows);
-    let mut maps = if case.steps == Steps::CallsAlone {
-        Mapped { number: 0, places: [0; 3], slots: case.bytes[5].clone() }
-    } else {
-        ours::relocate_maps(&case.bytes)
-    };
+    let mut maps = if case.steps == Steps::CallsAlone { domain::without_maps(case) } else { ours::relocate_maps(&case.bytes) };
     let mut link = (maps.number == 0).then(|| ours::link(case, &maps.slots));
     let (ran, touched) = theirs::run(case, &rows);
     if let Some(bite) = bite {
@@ -124,34 +119,20 @@ impl Both {
         checks.into_iter().find(|(same, _)| !same).map(|(_, what)| what)
     }
 
-    /// Where our answer is not what document 01 says, inside the domain or not.
-    pub fn against_model(&self, case: &Case) -> Option<String> {
-        let told = |Refused(n, a, b): Refused| (n, [a, b, 0]);
-        let (maps, places) = ((self.maps.number, self.maps.places), |n: u32| [n, 0, 0]);
-        match &self.said.maps {
-            Err(refused) if maps != told(*refused) => return Some(format!("map step gave {maps:?}, not {refused:?}")),
-            Err(_) if self.maps.slots != case.bytes[5] => return Some("a refused map step changed a slot".to_string()),
-            Err(_) => return None,
-            Ok((slots, applied)) => {
-                let right = maps == (0, places(*applied)) && (slots.concat() == self.maps.slots || case.steps == Steps::CallsAlone);
-                if !right {
-                    return Some(format!("map step gave {maps:?}, not {applied} applied, or other slots"));
-                }
-            }
+    /// Where our answer is not what document 01 says, inside the domain or not: number, places and every lent buffer.
+    pub fn against_model(&self) -> Option<String> {
+        let (ours, said) = (&self.maps, &self.said.maps);
+        if ours != said {
+            let what = if ours.slots == said.slots { "" } else { ", or other slots" };
+            return Some(format!("map step gave {} {:?}, not {} {:?}{what}", ours.number, ours.places, said.number, said.places));
         }
-        let link = self.link.as_ref()?;
-        let zero = |bytes: &[u8]| bytes.iter().all(|&b| b == 0);
-        match self.said.link.as_ref()? {
-            Err(refused) if (link.number, link.places) != told(*refused) => {
-                Some(format!("link gave {} {:?}, not {refused:?}", link.number, link.places))
+        match (&self.link, &self.said.link) {
+            (ours, said) if ours == said => None,
+            (Some(ours), Some(said)) => {
+                let what = if ours.out == said.out { "" } else { ", or other bytes" };
+                Some(format!("link gave {} {:?}, not {} {:?}{what}", ours.number, ours.places, said.number, said.places))
             }
-            Err(_) => (!link.out.iter().all(|o| zero(o))).then(|| "a refused link left bytes".to_string()),
-            Ok(used) => {
-                let counts = (link.number, link.places) == (0, used.map(|n| n as u32));
-                let same = |i: usize| link.out[i].starts_with(&self.said.out[i]) && zero(&link.out[i][self.said.out[i].len()..]);
-                (!(counts && (0..3).all(same)))
-                    .then(|| format!("link gave {} {:?}, not {used:?}, or other bytes", link.number, link.places))
-            }
+            (ours, _) => Some(format!("link: {}", if ours.is_some() { "ours alone went on to it" } else { "ours did not come to it" })),
         }
     }
 }

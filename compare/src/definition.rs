@@ -3,8 +3,8 @@ use std::{collections::BTreeSet, fs, path::Path};
 
 use crate::{
     both::{self, Both},
-    model, sample, shrink,
-    tables::{Case, Map, NONE, Rows, SECTION, Slot, Steps, Symbol, TEXT, immediate},
+    sample, shrink,
+    tables::{Case, Map, NONE, Rows, SECTION, Slot, Steps, Symbol, TEXT, immediate, symbol_of},
     theirs::{self, Cause, Ended, Image},
 };
 
@@ -152,7 +152,7 @@ fn sort(case: &Case, both: &Both) -> Option<String> {
 
 /// Which form it is that 8 does not know.
 fn form(both: &Both) -> &'static str {
-    let named = |test: fn(&Symbol) -> bool| both.rows.relocations.iter().filter_map(|r| model::symbol_of(&both.rows, r)).any(test);
+    let named = |test: fn(&Symbol) -> bool| both.rows.relocations.iter().filter_map(|r| symbol_of(&both.rows, r)).any(test);
     match both.number() {
         8 if named(|s| s.kind == TEXT && s.section == NONE) => " (Text without a section)",
         8 if named(|s| s.kind == SECTION) => " (a size)",
@@ -163,8 +163,9 @@ fn form(both: &Both) -> &'static str {
 
 /// What an object inside the domain shows.
 fn inside(both: &Both) -> String {
-    let reference = both.said.out[0].chunks(8).any(|s| s[0] == 0x18 && s[1] >> 4 == 4);
-    let applied = both.said.maps.as_ref().is_ok_and(|m| m.1 > 0);
+    let image = both.said.link.as_ref().map_or(&[][..], |l| &l.out[0]);
+    let reference = image.chunks_exact(8).any(|s| s[0] == 0x18 && s[1] >> 4 == 4);
+    let applied = both.said.maps.number == 0 && both.said.maps.places[0] > 0;
     let answer = if both.number() == 0 { "accepted".to_string() } else { format!("refused by {}", both.number()) };
     let reached = ["nothing reached", "one callee reached", "callees reached"][both.said.reached.len().min(2)];
     let shown = [

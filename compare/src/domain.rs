@@ -2,8 +2,9 @@
 //! It is that of the theorem `demand-2`: of "no relocation finds its map by section where only maps with symbols stand" nothing is
 //! needed (docs/DIFFERENCES.md, finding 1), so objects that break that clause alone are inside here, and are compared.
 use crate::{
-    model::{self, Judged, Linker, Refused},
-    tables::{Case, NONE, Rows, Slot, Steps, TEXT, immediate},
+    literal,
+    ours::{Linked, Mapped},
+    tables::{Case, NONE, Relocation, Rows, Steps, TEXT, immediate, is_call, is_code, symbol_of},
 };
 
 /// The causes that put an object outside.
@@ -44,13 +45,12 @@ fn of_number(number: u32, link: bool) -> Option<usize> {
     }
 }
 
-/// What document 01 says of an object, and why it is outside the domain, if it is.
+/// What document 01 says of an object, by the literal model, and why it is outside the domain, if it is.
 pub struct Said {
-    pub maps: Result<(Vec<Slot>, u32), Refused>,
-    pub link: Option<Result<[usize; 3], Refused>>,
+    pub maps: Mapped,
+    /// Where the map step is accepted.
+    pub link: Option<Linked>,
     pub reached: Vec<usize>,
-    /// The image and its records, where the link is accepted.
-    pub out: [Vec<u8>; 3],
     pub outside: Vec<usize>,
     /// "no relocation finds its map by section where only maps with symbols stand" is broken.
     pub spare_clause: bool,
@@ -64,8 +64,9 @@ impl Said {
 
 pub fn say(case: &Case, rows: &Rows) -> Said {
     let alone = case.steps == Steps::CallsAlone;
-    let maps = if alone { Ok((rows.slots.clone(), 0)) } else { model::relocate_maps(&case.bytes, rows) };
-    let mut said = Said { maps, link: None, reached: Vec::new(), out: Default::default(), outside: Vec::new(), spare_clause: false };
+    let maps = if alone { without_maps(case) } else { literal::relocate_maps(&case.bytes) };
+    let (link, reached) = (maps.number == 0).then(|| literal::link(case, &maps.slots)).unzip();
+    let mut said = Said { maps, link, reached: reached.unwrap_or_default(), outside: Vec::new(), spare_clause: false };
     // "Maps first, then calls; the root is the only program": linked once
     match case.steps {
         Steps::MapsThenCalls => {}
@@ -74,44 +75,49 @@ pub fn say(case: &Case, rows: &Rows) -> Said {
         Steps::TwoPrograms => said.outside.push(cause("another")),
     }
     // "Valid tables in our limits": neither 1 nor 2 nor 13, of both steps
-    let valid = if alone { Ok(()) } else { model::check_maps(&case.bytes, rows) };
-    let linkable = model::check_link(&case.bytes, rows, case.root);
-    if let Err(Refused(number, ..)) = valid.and(linkable) {
+    let invalid = [said.maps.number, literal::check_link(&case.bytes, case.root)].into_iter().find(|n| matches!(n, 1 | 2 | 13));
+    if let Some(number) = invalid {
         said.outside.push(of_number(number, false).unwrap());
-        said.link = linkable.err().filter(|_| said.maps.is_ok()).map(Err);
         return said;
     }
     if !alone {
-        map_clauses(rows, &mut said);
+        map_clauses(case, rows, &mut said);
     }
-    if let Ok((slots, _)) = &said.maps {
-        let after = Rows { slots: slots.clone(), ..rows.clone() };
-        link(case, &after, &mut said);
-        call_clauses(case, &after, &mut said);
+    if let Some(link) = &said.link {
+        // "no refusal but 3, 4, 5, 10"
+        said.outside.extend(of_number(link.number, true));
+        let slots = said.maps.slots.chunks_exact(8).map(|s| s.try_into().unwrap()).collect();
+        call_clauses(case, &Rows { slots, ..rows.clone() }, &mut said);
     }
     said
 }
 
-fn map_clauses(rows: &Rows, said: &mut Said) {
-    let each = model::each(rows);
+/// "Calls alone": no map step, table 6 as it is.
+pub fn without_maps(case: &Case) -> Mapped {
+    Mapped { number: 0, places: [0; 3], slots: case.bytes[5].clone() }
+}
+
+fn map_clauses(case: &Case, rows: &Rows, said: &mut Said) {
     // "a section with a map without a symbol has no other map"
     let shares = |i: usize| rows.maps.iter().enumerate().any(|(j, m)| i != j && m.section == rows.maps[i].section);
     if (0..rows.maps.len()).any(|i| rows.maps[i].symbol == NONE && shares(i)) {
         said.outside.push(cause("a map without"));
     }
-    said.spare_clause =
-        rows.functions.iter().enumerate().any(|(row, f)| rows.relocations.iter().any(|r| finds_by_symbol_maps(rows, f, &each[row], r)));
-    let Err(Refused(number, row, _)) = said.maps else { return };
+    let each = |row: usize| (0..rows.relocations.len()).filter_map(move |k| literal::refuses(&case.bytes, row, k).map(|n| (k, n)));
+    let by_symbol_maps = |k: usize| finds_by_symbol_maps(rows, &rows.relocations[k]);
+    said.spare_clause = (0..rows.functions.len()).any(|row| each(row).any(|(k, number)| number == 5 && by_symbol_maps(k)));
+    if said.maps.number == 0 {
+        return;
+    }
     // "no refusal but 3, 4, 5, 10"
-    said.outside.extend(of_number(number, false));
+    said.outside.extend(of_number(said.maps.number, false));
     // "the function refused by the map step has one refusable relocation"
-    let (f, slots) = (&rows.functions[row as usize], &each[row as usize]);
-    let refused: Vec<_> = rows.relocations.iter().filter_map(|r| judge(rows, f, slots, r).map(|number| (r, number))).collect();
+    let refused: Vec<_> = each(said.maps.places[0] as usize).collect();
     if refused.len() > 1 {
         said.outside.push(cause("two refusable"));
     }
     // "5 only where the kind is not Text and no map has the section"
-    for symbol in refused.iter().filter(|(_, number)| *number == 5).filter_map(|(r, _)| model::symbol_of(rows, r)) {
+    for symbol in refused.iter().filter(|(_, number)| *number == 5).filter_map(|&(k, _)| symbol_of(rows, &rows.relocations[k])) {
         if symbol.kind == TEXT {
             said.outside.push(cause("5, kind"));
         }
@@ -123,48 +129,22 @@ fn map_clauses(rows: &Rows, said: &mut Said) {
     said.outside.dedup();
 }
 
-fn judge(rows: &Rows, f: &crate::tables::Function, slots: &[Slot], r: &crate::tables::Relocation) -> Option<u32> {
-    match model::judge(rows, f, slots, r) {
-        Judged::Refused(number, _) => Some(number),
-        _ => None,
-    }
-}
-
-fn finds_by_symbol_maps(rows: &Rows, f: &crate::tables::Function, slots: &[Slot], r: &crate::tables::Relocation) -> bool {
-    judge(rows, f, slots, r) == Some(5)
-        && model::symbol_of(rows, r).is_some_and(|s| {
-            let here = || rows.maps.iter().filter(|m| m.section == s.section);
-            s.kind != TEXT && here().next().is_some() && here().all(|m| m.symbol != NONE)
-        })
-}
-
-fn link(case: &Case, after: &Rows, said: &mut Said) {
-    let mut linker = Linker::new(case, after);
-    let linked = linker.link(case.root as usize);
-    if let Err(Refused(number, ..)) = linked {
-        // "no refusal but 3, 4, 5, 10"
-        said.outside.extend(of_number(number, true));
-    } else {
-        let words = |w: &u32| w.to_le_bytes();
-        said.out = [
-            linker.slots.concat(),
-            linker.funcs.iter().flatten().flat_map(words).collect(),
-            linker.lines.iter().flatten().flat_map(words).collect(),
-        ];
-    }
-    said.link = Some(linked.map(|()| [linker.slots.len(), linker.funcs.len(), linker.lines.len()]));
-    said.reached = linker.reached;
+fn finds_by_symbol_maps(rows: &Rows, r: &Relocation) -> bool {
+    symbol_of(rows, r).is_some_and(|s| {
+        let here = || rows.maps.iter().filter(|m| m.section == s.section);
+        s.kind != TEXT && here().next().is_some() && here().all(|m| m.symbol != NONE)
+    })
 }
 
 fn call_clauses(case: &Case, after: &Rows, said: &mut Said) {
     // "no call or size-32 code reference with immediate 2,147,483,647", over all of the tables that the map step leaves
     let (mut call, mut reference) = (false, false);
-    for (f, slots) in after.functions.iter().zip(model::each(after)) {
+    for (f, (slots, _, _)) in after.functions.iter().zip(after.parts()) {
         for (k, slot) in slots.iter().enumerate().filter(|(_, s)| immediate(s) == i32::MAX) {
-            call |= model::is_call(slot);
+            call |= is_call(slot);
             let here = f.offset + 8 * k as u64;
             let relocation = after.relocations.iter().find(|r| r.section == f.section && r.offset == here && r.size == 32);
-            reference |= relocation.and_then(|r| model::symbol_of(after, r)).is_some_and(|s| model::is_code(after, s.section));
+            reference |= relocation.and_then(|r| symbol_of(after, r)).is_some_and(|s| is_code(after, s.section));
         }
     }
     if call {

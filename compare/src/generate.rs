@@ -5,8 +5,8 @@ use crate::{
     domain,
     rng::Rng,
     tables::{
-        Case, EXIT, Function, MOST_ROWS, MOVE, Map, NONE, OTHER, ROW_SIZE, Relocation, Rows, SECTION, Slot, Steps, Symbol, TEXT, call,
-        immediate, insn,
+        self, Case, EXIT, Function, MOST_ROWS, MOVE, Map, NONE, OTHER, ROW_SIZE, Relocation, Rows, SECTION, Slot, Steps, Symbol, TEXT,
+        call, immediate, insn,
     },
 };
 
@@ -306,7 +306,7 @@ fn far_call(rng: &mut Rng, o: &mut Object) {
     let f = &mut o.functions[root];
     let taken = (0..f.slots.len() as u64).any(|k| o.relocations.contains_key(&(section, f.offset + 8 * k)));
     let moved = !taken && offset % 8 == 0 && (0..TOP as i64 - 100).contains(&offset);
-    if moved && !f.slots.iter().any(|s| crate::model::is_call(s)) {
+    if moved && !f.slots.iter().any(|s| tables::is_call(s)) {
         f.offset = offset as u64;
         f.slots[0] = call(value as i32);
     }
@@ -372,11 +372,11 @@ fn is_data(o: &Object, f: &Fun, k: usize) -> bool {
 }
 
 fn is_data_load(o: &Object, f: &Fun, k: usize) -> bool {
-    is_data(o, f, k) && crate::model::is_wide_load(&f.slots, k)
+    is_data(o, f, k) && tables::is_wide_load(&f.slots, k)
 }
 
 fn is_reference(o: &Object, f: &Fun, k: usize) -> bool {
-    crate::model::is_wide_load(&f.slots, k) && symbol(o, f, k).is_some_and(|s| s.kind != OTHER && o.code.contains(&s.section))
+    tables::is_wide_load(&f.slots, k) && symbol(o, f, k).is_some_and(|s| s.kind != OTHER && o.code.contains(&s.section))
 }
 
 fn is_relocated(o: &Object, f: &Fun, k: usize) -> bool {
@@ -384,7 +384,7 @@ fn is_relocated(o: &Object, f: &Fun, k: usize) -> bool {
 }
 
 fn is_free_call(o: &Object, f: &Fun, k: usize) -> bool {
-    crate::model::is_call(&f.slots[k]) && relocation(o, f, k).is_none()
+    tables::is_call(&f.slots[k]) && relocation(o, f, k).is_none()
 }
 
 fn is_root(o: &Object, f: &Fun) -> bool {
@@ -429,7 +429,7 @@ fn wraps_to_another(rng: &mut Rng, o: &mut Object) -> Option<()> {
     }
     let (section, far) = (f.section, f.offset + (1 << 35));
     let f = &mut o.functions[root];
-    f.slots.iter_mut().filter(|s| crate::model::is_call(s)).for_each(|s| *s = EXIT);
+    f.slots.iter_mut().filter(|s| tables::is_call(s)).for_each(|s| *s = EXIT);
     if rng.chance(50) || f.slots.len() < 2 {
         f.offset = far;
         f.slots[0] = call(i32::MAX);
@@ -516,8 +516,7 @@ const ADDED: [Spoiler; 10] = [
     |rng, o| {
         // the last slot of a function
         let symbol = o.symbols.iter().find(|s| [20, 21].contains(&s.section))?.index;
-        let (f, k) =
-            find(rng, o, |o, f, k| k + 1 == f.slots.len() && relocation(o, f, k).is_none() && !crate::model::is_call(&f.slots[k]))?;
+        let (f, k) = find(rng, o, |o, f, k| k + 1 == f.slots.len() && relocation(o, f, k).is_none() && !tables::is_call(&f.slots[k]))?;
         set_relocation(o, f, k, (symbol, 64));
         o.functions[f].slots[k][0] = rng.pick(&[0x18, 0x95]);
         Some(())
@@ -556,7 +555,7 @@ const ADDED: [Spoiler; 10] = [
     },
     |rng, o| {
         let symbol = o.symbols.iter().find(|s| [20, 21, NONE].contains(&s.section) && s.kind != TEXT)?.index;
-        let (f, k) = find(rng, o, |_, f, k| crate::model::is_call(&f.slots[k]))?;
+        let (f, k) = find(rng, o, |_, f, k| tables::is_call(&f.slots[k]))?;
         set_relocation(o, f, k, (symbol, 32));
         Some(())
     },
@@ -785,7 +784,7 @@ fn bare(o: Object) -> Case {
 /// Outputs that are too short in one place, or just long enough.
 fn shorten(rng: &mut Rng, case: &mut Case) {
     let rows = Rows::of(&case.bytes);
-    if let Some(Ok(used)) = domain::say(case, &rows).link {
+    if let Some(used) = domain::say(case, &rows).link.filter(|l| l.number == 0).map(|l| l.places.map(|n| n as usize)) {
         let size = [8, 8, 16];
         case.room = [0, 1, 2].map(|i| used[i] * size[i]);
         let i = rng.below(3) as usize;

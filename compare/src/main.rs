@@ -4,7 +4,7 @@ mod both;
 mod definition;
 mod domain;
 mod generate;
-mod model;
+mod literal;
 mod ours;
 mod readers;
 mod report;
@@ -17,7 +17,7 @@ mod vectors;
 
 use std::{path::Path, process::ExitCode};
 
-use both::{BITES, Bite};
+use both::{BITES, Bite, Both};
 use report::Report;
 use rng::Rng;
 use tables::Case;
@@ -30,22 +30,50 @@ struct Fault {
     smallest: String,
 }
 
-/// Whether an object shows a fault: inside the domain, the crate's answer and ours differ; anywhere, ours is not document 01's.
-fn fault(case: &Case, bite: Option<Bite>) -> Option<String> {
-    let both = both::run(case, bite);
-    let wrong = if bite.is_none() { both.against_model(case) } else { None };
-    wrong.or_else(|| if both.said.inside() { both.difference() } else { None })
+/// Whom our answers are held to: document 01's literal model on every input, and the crate inside the domain. A fault put in on
+/// purpose is held to one of the two, so that each is seen to notice it.
+#[derive(Clone, Copy, PartialEq)]
+enum Held {
+    ToBoth,
+    ToModel(Bite),
+    ToCrate(Bite),
 }
 
-fn compare(objects: u64, seed: u64, bite: Option<Bite>, report: &mut Report) -> Result<(), Fault> {
+impl Held {
+    fn bite(self) -> Option<Bite> {
+        match self {
+            Held::ToBoth => None,
+            Held::ToModel(bite) | Held::ToCrate(bite) => Some(bite),
+        }
+    }
+
+    fn to_model(self) -> bool {
+        !matches!(self, Held::ToCrate(_))
+    }
+
+    fn to_crate(self) -> bool {
+        !matches!(self, Held::ToModel(_))
+    }
+}
+
+/// Whether an object shows a fault: inside the domain, the crate's answer and ours differ; anywhere, ours is not document 01's.
+fn shows(both: &Both, held: Held) -> Option<String> {
+    let wrong = if held.to_model() { both.against_model() } else { None };
+    wrong.or_else(|| if held.to_crate() && both.said.inside() { both.difference() } else { None })
+}
+
+fn fault(case: &Case, held: Held) -> Option<String> {
+    shows(&both::run(case, held.bite()), held)
+}
+
+fn compare(objects: u64, seed: u64, held: Held, report: &mut Report) -> Result<(), Fault> {
     let mut rng = Rng::new(seed);
     for _ in 0..objects {
         let case = generate::case(&mut rng);
-        let both = both::run(&case, bite);
-        let wrong = if bite.is_none() { both.against_model(&case) } else { None };
-        if let Some(what) = wrong.or_else(|| if both.said.inside() { both.difference() } else { None }) {
-            let small = shrink::smallest(&case, |c| fault(c, bite).is_some());
-            let what = fault(&small, bite).unwrap_or(what);
+        let both = both::run(&case, held.bite());
+        if let Some(what) = shows(&both, held) {
+            let small = shrink::smallest(&case, |c| fault(c, held).is_some());
+            let what = fault(&small, held).unwrap_or(what);
             return Err(Fault { what, smallest: shrink::words(&small) });
         }
         report.add(&case, &both);
@@ -53,9 +81,10 @@ fn compare(objects: u64, seed: u64, bite: Option<Bite>, report: &mut Report) -> 
     for _ in 0..objects / 4 {
         let input = readers::input(&mut rng);
         let k = rng.pick(&[0, 0, 1, 2, input.count.wrapping_sub(1), input.count, u32::MAX]);
-        let read = readers::run(&input, k, bite);
-        let inside = read.cause == readers::INSIDE;
-        if let Some(what) = read.wrong.clone().or_else(|| read.differs.clone().filter(|_| inside)) {
+        let read = readers::run(&input, k, held.bite());
+        let wrong = read.wrong.clone().filter(|_| held.to_model());
+        let differs = read.differs.clone().filter(|_| held.to_crate() && read.cause == readers::INSIDE);
+        if let Some(what) = wrong.or(differs) {
             let smallest = format!(
                 "  reader: line {}, size {}, count {}, output {}, data {:02x?}\n",
                 input.line, input.size, input.count, input.room, input.data
@@ -70,7 +99,7 @@ fn compare(objects: u64, seed: u64, bite: Option<Bite>, report: &mut Report) -> 
 fn run(objects: u64, seed: u64, brief: bool) -> ExitCode {
     println!("compare: {objects} objects, seed {seed}");
     let mut report = Report::new();
-    if let Err(fault) = compare(objects, seed, None, &mut report) {
+    if let Err(fault) = compare(objects, seed, Held::ToBoth, &mut report) {
         println!("compare: MISMATCH: {}\nthe smallest object found:\n{}", fault.what, fault.smallest);
         return ExitCode::FAILURE;
     }
@@ -88,18 +117,20 @@ fn run(objects: u64, seed: u64, brief: bool) -> ExitCode {
     ExitCode::SUCCESS
 }
 
-/// Each fault put into our answers on purpose has to be noticed.
+/// Each fault put into our answers on purpose has to be noticed, by the crate's answers alone and by the model's alone.
 fn bites(objects: u64, seed: u64) -> ExitCode {
     for bite in BITES {
-        match compare(objects, seed, Some(bite), &mut Report::new()) {
-            Err(fault) => println!("compare: {bite:?} noticed: {}", fault.what),
-            Ok(()) => {
-                println!("compare: {bite:?} went unnoticed");
-                return ExitCode::FAILURE;
+        for (held, whose) in [(Held::ToCrate(bite), "crate"), (Held::ToModel(bite), "model")] {
+            match compare(objects, seed, held, &mut Report::new()) {
+                Err(fault) => println!("compare: {bite:?} noticed by the {whose}: {}", fault.what),
+                Ok(()) => {
+                    println!("compare: {bite:?} went unnoticed by the {whose}");
+                    return ExitCode::FAILURE;
+                }
             }
         }
     }
-    println!("compare: {} faults put in, all noticed", BITES.len());
+    println!("compare: {} faults put in, all noticed by the crate and by the model", BITES.len());
     ExitCode::SUCCESS
 }
 

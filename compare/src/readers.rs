@@ -1,7 +1,7 @@
 //! The record readers beside the crate's `parse`, and the encoded bytes beside its `func_info_bytes` and `line_info_bytes`.
 use aya_obj::way_in;
 
-use crate::{both::Bite, ours::Info, rng::Rng, theirs::caught};
+use crate::{both::Bite, literal, ours::Info, rng::Rng, theirs::caught};
 
 /// Why the crate and we may differ; the last is the domain.
 pub const CAUSES: [&str; 6] =
@@ -45,9 +45,15 @@ pub fn input(rng: &mut Rng) -> Input {
     Input { line, size, count, data, room }
 }
 
-/// The cause that document 01 gives, with its number.
+impl Input {
+    fn row(&self) -> u32 {
+        if self.line { 16 } else { 8 }
+    }
+}
+
+/// The cause that puts an input outside, with the number that goes with it.
 pub fn cause(i: &Input) -> (usize, u32) {
-    let row = if i.line { 16 } else { 8 };
+    let row = i.row();
     let off_grid = || i.data.chunks(i.size as usize).any(|r| r[0] & 7 != 0);
     if i.size == 0 {
         (1, 14)
@@ -91,7 +97,8 @@ pub struct Read {
 }
 
 pub fn run(i: &Input, k: u32, bite: Option<Bite>) -> Read {
-    let (cause, expected) = cause(i);
+    let (cause, by_cause) = cause(i);
+    let said = literal::read(i.row() as usize, i.size, i.count, &i.data, i.room);
     let info = Info { line: i.line, size: i.size, count: i.count, data: &i.data };
     let (number, places, mut out) = info.read(i.room);
     if bite == Some(Bite::Reader) && number == 0 && i.count > 0 {
@@ -99,9 +106,10 @@ pub fn run(i: &Input, k: u32, bite: Option<Bite>) -> Read {
     }
     let theirs = crate_reads(i);
     let mut read = Read { cause, number, wrong: None, differs: None, panicked: theirs.is_none() };
-    let done = if expected == 0 { [i.count, 0, 0] } else { [0; 3] };
-    if (number, places) != (expected, done) || number != 0 && out.iter().any(|&b| b != 0) {
-        read.wrong = Some(format!("gave {number} {places:?}, or bytes after a refusal; not {expected} {done:?}"));
+    if (number, places, &out) != (said.0, said.1, &said.2) {
+        read.wrong = Some(format!("gave {number} {places:?}, not {} {:?}, or other bytes", said.0, said.1));
+    } else if said.0 != by_cause {
+        read.wrong = Some(format!("counted as {:?}, and the answer is {}", CAUSES[cause], said.0));
     }
     read.differs = match (&theirs, number) {
         (Some((rows, bytes, num)), 0) => {
@@ -113,20 +121,21 @@ pub fn run(i: &Input, k: u32, bite: Option<Bite>) -> Read {
         (Some(_), n) => Some(format!("ours {n}, the crate reads")),
         (None, n) => Some(format!("ours {n}, the crate panics")),
     };
-    if let Some(wrong) = record(i, &info, k, expected == 14) {
+    if let Some(wrong) = record(i, &info, k) {
         read.wrong = Some(wrong);
     }
     read
 }
 
-/// Record k as a part of the data, beside the crate's chunk.
-fn record(i: &Input, info: &Info, k: u32, broken: bool) -> Option<String> {
+/// Record k: number and places beside the model's, and the part of the data beside the crate's chunk.
+fn record(i: &Input, info: &Info, k: u32) -> Option<String> {
     let (number, places, part) = info.record(k);
-    let chunk = if broken || k >= i.count { None } else { i.data.chunks(i.size as usize).nth(k as usize) };
+    let said = literal::record(i.row() as usize, i.size, i.count, &i.data, k);
+    let chunk = if said.0 == 0 { i.data.chunks(i.size as usize).nth(k as usize) } else { None };
     let got = i.data.get(part.at as usize..(part.at + part.len) as usize).unwrap_or(&[]);
     let right = match chunk {
-        Some(chunk) => number == 0 && places == [i.count, 0, 0] && got == chunk && part.at == u64::from(i.size) * u64::from(k),
-        None => number == 14 && places == [0; 3] && part.len == 0,
+        Some(chunk) => got == chunk && part.at == u64::from(i.size) * u64::from(k),
+        None => said.0 == 14 && part.len == 0,
     };
-    (!right).then(|| format!("record {k}: gave {number} {places:?}, {} bytes at {}", part.len, part.at))
+    (!right || (number, places) != said).then(|| format!("record {k}: gave {number} {places:?}, {} bytes at {}", part.len, part.at))
 }

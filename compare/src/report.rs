@@ -79,13 +79,14 @@ impl Report {
 
     fn add_features(&mut self, both: &Both) {
         self.features[9] += u64::from(both.said.spare_clause);
-        let (Ok((mapped, _)), Some(Ok(used))) = (&both.said.maps, &both.said.link) else { return };
+        let Some(link) = both.said.link.as_ref().filter(|l| l.number == 0) else { return };
         let rows = &both.rows;
         let mut appended = both.said.reached.clone();
         appended.sort_unstable();
         appended.dedup();
         let source = |slots: &[[u8; 8]], s: u8| slots.iter().any(|i| i[0] == 0x18 && i[1] >> 4 == s);
-        let image: Vec<[u8; 8]> = both.said.out[0].chunks_exact(8).map(|c| c.try_into().unwrap()).collect();
+        let slots_of = |bytes: &[u8]| bytes.chunks_exact(8).map(|c| c.try_into().unwrap()).collect::<Vec<[u8; 8]>>();
+        let (image, mapped) = (slots_of(&link.out[0]), slots_of(&both.said.maps.slots));
         let mapped_now = |s: u8| mapped.iter().zip(&rows.slots).any(|(a, b)| a != b && a[0] == 0x18 && a[1] >> 4 == s);
         let has = |count: fn(&crate::tables::Function) -> u32| appended.iter().any(|&f| count(&rows.functions[f]) > 0);
         let shown = [
@@ -97,7 +98,7 @@ impl Report {
             mapped_now(2),
             has(|f| f.funcs),
             has(|f| f.lines),
-            used[0] == 4096,
+            link.places[0] == 4096,
         ];
         for (count, shown) in self.features.iter_mut().zip(shown) {
             *count += u64::from(shown);

@@ -8,7 +8,6 @@ pub const SECTION: u8 = 2;
 /// Bytes of a row and most rows, by table number less one.
 pub const ROW_SIZE: [usize; 8] = [4, 24, 32, 24, 16, 8, 8, 16];
 pub const MOST_ROWS: [usize; 8] = [64, 1024, 64, 1024, 64, 8192, 256, 4096];
-pub const MOST_IMAGE: [usize; 3] = [4096, 256, 4096];
 
 pub type Bytes = [Vec<u8>; 8];
 pub type Slot = [u8; 8];
@@ -159,6 +158,24 @@ fn front<'a, T>(list: &mut &'a [T], n: u32) -> &'a [T] {
     let (front, rest) = list.split_at(list.len().min(n as usize));
     *list = rest;
     front
+}
+
+// ---- what a slot is and what a relocation names, for making objects and for stating the domain
+
+pub fn is_call(s: &Slot) -> bool {
+    s[..4] == [0x85, 0x10, 0, 0]
+}
+
+pub fn is_wide_load(slots: &[Slot], k: usize) -> bool {
+    slots[k][0] == 0x18 && slots.get(k + 1).is_some_and(|next| next[..4] == [0; 4])
+}
+
+pub fn symbol_of<'a>(rows: &'a Rows, r: &Relocation) -> Option<&'a Symbol> {
+    rows.symbols.iter().find(|s| s.index == r.symbol)
+}
+
+pub fn is_code(rows: &Rows, section: u32) -> bool {
+    section != NONE && rows.code.contains(&section)
 }
 
 /// What runs: the tables' bytes, the root, and what the tables do not say.

@@ -1,4 +1,4 @@
-// The tool as the gate runs it. A Rattle program cannot set its exit status; tools/bark.c is the same tool with it.
+// The tool as the gate runs it. A Rattle program cannot set its exit status; src/bark.c is the same tool with it.
 use libc::STDERR_FILENO;
 
 fn main() {

@@ -16,11 +16,12 @@ use Rattle.rules.specs.Bytes.{little, padded}
 use Rattle.rules.specs.Answers.{Reply, reply, placesIn}
 use Rattle.rules.specs.Rows.{rowSize, mostRows, wholeRows, isPartial, isTooMany, tooMany, orElse, Offered, linkOffer, linkRefusal}
 use Rattle.rules.specs.Entries.{Outputs, LinkResult, refusedLink, unlessLinkRefused, linkEntry}
-use Rattle.linker.specs.Linker.{Buffers, buffers, lentBy}
+use Rattle.rules.specs.Lent.{Buffers, buffers, lentBy}
 use Rattle.symbols.specs.declared.Symbol.{Symbol}
 use Rattle.symbols.specs.Symbols.{bytesOf, rowsNeeded, bytesNeeded, laidIn}
 use Rattle.symbols.proofs.Laws.{bytes-length, laid-length, laid-front}
-use Rattle.barkruffle.specs.Promises.{Told, LinkTold, RowsTold}
+use Rattle.answers.specs.Told.{Told}
+use Rattle.barkruffle.specs.Promises.{LinkTold, RowsTold}
 use Rattle.barkruffle.specs.LinkRows.{shortScratch, linkRowsEntry}
 
 -- ---- more rows than the limit are refused, whatever they hold

@@ -14,8 +14,10 @@ use Rattle.rules.specs.Answers.{Reply, reply, replyOf, placesIn}
 use Rattle.rules.specs.Entries.{MapResult, LinkResult}
 use Rattle.rules.specs.Readers.{Info, readRecords, hasRecord, recordPart, recordReply}
 use Rattle.info.specs.Promises.{ReadAs}
-use Rattle.linker.specs.Linker.{Buffers, Outcomes}
-use Rattle.barkruffle.specs.Promises.{Told, LinkTold, MapTold, ReadTold, Placed, Stands}
+use Rattle.rules.specs.Lent.{Buffers}
+use Rattle.linker.specs.Linker.{Outcomes}
+use Rattle.answers.specs.Told.{Told}
+use Rattle.barkruffle.specs.Promises.{LinkTold, MapTold, ReadTold, Placed, Stands}
 
 -- three numbers written are the reply's places
 pub told : {before after three : List ℕ} {r : ℕ} {x : Reply}

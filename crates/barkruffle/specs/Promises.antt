@@ -4,18 +4,13 @@ use mathlib.Core.Path.{_≡_}
 use mathlib.Core.Bool.{Bool, cond}
 use mathlib.Core.List.{List}
 use Prim.Native.Nat.{ℕ, _*_}
-use lib.ListN.{length, take, drop}
+use lib.ListN.{take, drop}
 use Rattle.rules.specs.declared.Table.{Table}
 use Rattle.rules.specs.Bytes.{little}
-use Rattle.rules.specs.Answers.{Reply, placesIn}
 use Rattle.rules.specs.Entries.{MapResult, LinkResult}
 use Rattle.rules.specs.Readers.{Info, Read, hasRecord, recordPart}
-use Rattle.linker.specs.Linker.{Buffers}
-
--- "They return the number and write the place numbers": the place buffer before and after
-pub record Told (before after : List ℕ) (result : ℕ) (reply : Reply) : Type 0 where
-  pub number : result ≡ reply .number
-  pub places : after ≡ placesIn (length before) (reply .places)
+use Rattle.rules.specs.Lent.{Buffers}
+use Rattle.answers.specs.Told.{Told}
 
 pub record LinkTold (before after : List ℕ) (b : Buffers) (result : ℕ) (link : LinkResult) : Type 0 where
   pub told : Told before after result (link .reply)

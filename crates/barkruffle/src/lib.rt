@@ -1,4 +1,6 @@
 // The entries that C calls: each hands over to the crate that decides, and tells its answer as document 01's numbers.
+use answers::number;
+use answers::tell;
 use info::func_info;
 use info::func_info_record_number;
 use info::line_info;
@@ -6,81 +8,26 @@ use info::line_info_record_number;
 use linker::link;
 use maps::relocate_maps;
 use rules::Answer;
-use symbols::SYMBOL_SIZE;
+use rules::limits::SYMBOL_SIZE;
 use symbols::Symbol;
 use symbols::lay_rows;
 use symbols::rows_needed;
 use wire::put_places;
 use wire::wipe;
 ghost use mathlib.Core.Path.{_≡_};
-ghost use mathlib.Core.List.{[], _∷_};
 ghost use lib.Dec.{eqb};
 ghost use lib.ListN.{length, take};
 ghost use Rattle.rules.specs.declared.Table.the-variants.{FuncInfo, LineInfo};
 ghost use Rattle.rules.specs.Bytes.{little};
 ghost use Rattle.rules.specs.Answers.{replyOf};
-ghost use Rattle.rules.specs.Rows.{linkOffer, mapStepOffer};
+ghost use Rattle.rules.specs.Lent.{was, lent, lentMaps, outputs, lentOutputs, lentBy};
 ghost use Rattle.rules.specs.Entries.{linkEntry, mapEntry};
 ghost use Rattle.rules.specs.Readers.{readRecords, recordReply};
+ghost use Rattle.answers.specs.Told.{Told};
 ghost use Rattle.info.specs.Promises.{given};
-ghost use Rattle.linker.specs.Linker.{buffers, lentBy};
 ghost use Rattle.symbols.specs.Symbols.{bytesOf, bytesNeeded, laidIn};
-ghost use Rattle.barkruffle.specs.Promises.{Told, LinkTold, MapTold, ReadTold, Placed, Stands, RowsTold};
-ghost use Rattle.barkruffle.specs.LinkRows.{linkRowsEntry};
-
-fn number_of(a: Answer) -> u32
-    ensures { λ r. ⌜ r ≡ replyOf a .number ⌝ }
-{
-    match a {
-        Answer::Done(_, _, _) => 0,
-        Answer::TooManyRows(_) => 1,
-        Answer::BrokenRow(_, _) => 2,
-        Answer::UnknownSymbol(_, _) => 3,
-        Answer::InvalidRelocationOffset(_, _) => 4,
-        Answer::SectionNotFound(_, _) => 5,
-        Answer::NotWideLoad(_, _) => 6,
-        Answer::ValueOutside(_, _) => 7,
-        Answer::UnknownForm(_, _) => 8,
-        Answer::NoCode(_, _) => 9,
-        Answer::UnknownFunction(_, _) => 10,
-        Answer::NoRoom(_) => 11,
-        Answer::LineOutside(_, _) => 12,
-        Answer::NoRoot => 13,
-        Answer::BrokenInfo => 14,
-    }
-}
-
-struct Three(u32, u32, u32);
-
-fn places_of(a: Answer) -> Three
-    ensures { λ r. ⌜ (r .0 ∷ r .1 ∷ r .2 ∷ []) ≡ replyOf a .places ⌝ }
-{
-    match a {
-        Answer::Done(x, y, z) => Three(x, y, z),
-        Answer::TooManyRows(table) => Three(table, 0, 0),
-        Answer::BrokenRow(table, row) => Three(table, row, 0),
-        Answer::UnknownSymbol(function, slot) => Three(function, slot, 0),
-        Answer::InvalidRelocationOffset(function, slot) => Three(function, slot, 0),
-        Answer::SectionNotFound(function, slot) => Three(function, slot, 0),
-        Answer::NotWideLoad(function, slot) => Three(function, slot, 0),
-        Answer::ValueOutside(function, slot) => Three(function, slot, 0),
-        Answer::UnknownForm(function, slot) => Three(function, slot, 0),
-        Answer::NoCode(function, slot) => Three(function, slot, 0),
-        Answer::UnknownFunction(caller, slot) => Three(caller, slot, 0),
-        Answer::NoRoom(function) => Three(function, 0, 0),
-        Answer::LineOutside(function, line) => Three(function, line, 0),
-        Answer::NoRoot => Three(0, 0, 0),
-        Answer::BrokenInfo => Three(0, 0, 0),
-    }
-}
-
-fn tell(a: Answer, places: &mut [u8]) -> u32
-    ensures { λ r. ⌜ Told (now (places .entry)) (now (places .exit)) r (replyOf a) ⌝ }
-{
-    let three = places_of(a);
-    put_places(places, three.0, three.1, three.2);
-    number_of(a)
-}
+ghost use Rattle.barkruffle.specs.Promises.{LinkTold, MapTold, ReadTold, Placed, Stands, RowsTold};
+ghost use Rattle.barkruffle.specs.LinkRows.{lentWith, linkRowsEntry};
 
 // Rewrites table 6 in place, only once nothing is refused.
 #[no_mangle]
@@ -93,7 +40,13 @@ pub extern "C" fn barkruffle_relocate_maps(
     instructions: &mut [u8],
     places: &mut [u8],
 ) -> u32
-    ensures { λ r. ⌜ MapTold (now (places .entry)) (now (places .exit)) (now (instructions .exit)) r (mapEntry little (mapStepOffer (now (code .entry)) (now (symbols .entry)) (now (functions .entry)) (now (relocations .entry)) (now (maps .entry)) (now (instructions .entry)))) ⌝ }
+    ensures { λ r. ⌜ MapTold
+        (was places)
+        (now (places .exit))
+        (now (instructions .exit))
+        r
+        (mapEntry little (lentMaps code symbols functions relocations maps instructions))
+        ⌝ }
 {
     let a = relocate_maps(code, symbols, functions, relocations, maps, instructions);
     tell(a, places)
@@ -115,7 +68,17 @@ pub extern "C" fn barkruffle_link(
     image_line_info: &mut [u8],
     places: &mut [u8],
 ) -> u32
-    ensures { λ r. ⌜ LinkTold (now (places .entry)) (now (places .exit)) (buffers (now (image .exit)) (now («image_func_info» .exit)) (now («image_line_info» .exit))) r (linkEntry little (linkOffer (now (code .entry)) (now (symbols .entry)) (now (functions .entry)) (now (relocations .entry)) (now (instructions .entry)) (now («func_info» .entry)) (now («line_info» .entry))) root (lentBy (buffers (now (image .entry)) (now («image_func_info» .entry)) (now («image_line_info» .entry))))) ⌝ }
+    ensures { λ r. ⌜ LinkTold
+        (was places)
+        (now (places .exit))
+        (outputs (image .exit) («image_func_info» .exit) («image_line_info» .exit))
+        r
+        (linkEntry
+        little
+        (lent code symbols functions relocations instructions «func_info» «line_info»)
+        root
+        (lentBy (lentOutputs image «image_func_info» «image_line_info»)))
+        ⌝ }
 {
     let a = link(
         code,
@@ -152,7 +115,20 @@ fn link_laid(
     places: &mut [u8],
     scratch: &mut [u8],
 ) -> u32
-    ensures { λ r. ⌜ RowsTold (now (places .entry)) (now (places .exit)) (buffers (now (image .exit)) (now («image_func_info» .exit)) (now («image_line_info» .exit))) r (linkRowsEntry count (length (now (scratch .entry))) (linkOffer (now (code .entry)) (take (bytesNeeded count) (now (scratch .entry))) (now (functions .entry)) (now (relocations .entry)) (now (instructions .entry)) (now («func_info» .entry)) (now («line_info» .entry))) root (lentBy (buffers (now (image .entry)) (now («image_func_info» .entry)) (now («image_line_info» .entry))))) (now (scratch .exit)) (now (scratch .entry)) ⌝ }
+    ensures { λ r. ⌜ RowsTold
+        (was places)
+        (now (places .exit))
+        (outputs (image .exit) («image_func_info» .exit) («image_line_info» .exit))
+        r
+        (linkRowsEntry
+        count
+        (length (was scratch))
+        (lentWith code (take (bytesNeeded count) (was scratch)) functions relocations instructions «func_info» «line_info»)
+        root
+        (lentBy (lentOutputs image «image_func_info» «image_line_info»)))
+        (now (scratch .exit))
+        (was scratch)
+        ⌝ }
 {
     let end = SYMBOL_SIZE * rows_needed(count);
     if scratch.len() < end {
@@ -195,7 +171,20 @@ pub extern "C" fn barkruffle_link_rows(
     places: &mut [u8],
     scratch: &mut [u8],
 ) -> u32
-    ensures { λ r. ⌜ RowsTold (now (places .entry)) (now (places .exit)) (buffers (now (image .exit)) (now («image_func_info» .exit)) (now («image_line_info» .exit))) r (linkRowsEntry (length (now (symbols .entry))) (length (now (scratch .entry))) (linkOffer (now (code .entry)) (bytesOf (now (symbols .entry))) (now (functions .entry)) (now (relocations .entry)) (now (instructions .entry)) (now («func_info» .entry)) (now («line_info» .entry))) root (lentBy (buffers (now (image .entry)) (now («image_func_info» .entry)) (now («image_line_info» .entry))))) (now (scratch .exit)) (laidIn (now (symbols .entry)) (now (scratch .entry))) ⌝ }
+    ensures { λ r. ⌜ RowsTold
+        (was places)
+        (now (places .exit))
+        (outputs (image .exit) («image_func_info» .exit) («image_line_info» .exit))
+        r
+        (linkRowsEntry
+        (length (was symbols))
+        (length (was scratch))
+        (lentWith code (bytesOf (was symbols)) functions relocations instructions «func_info» «line_info»)
+        root
+        (lentBy (lentOutputs image «image_func_info» «image_line_info»)))
+        (now (scratch .exit))
+        (laidIn (was symbols) (was scratch))
+        ⌝ }
 {
     lay_rows(symbols, scratch);
     link_laid(
@@ -224,7 +213,13 @@ pub extern "C" fn barkruffle_func_info(
     out: &mut [u8],
     places: &mut [u8],
 ) -> u32
-    ensures { λ r. ⌜ ReadTold (now (places .entry)) (now (places .exit)) (now (out .exit)) r (readRecords little FuncInfo (given size count (now (bytes .entry))) (length (now (out .entry)))) ⌝ }
+    ensures { λ r. ⌜ ReadTold
+        (was places)
+        (now (places .exit))
+        (now (out .exit))
+        r
+        (readRecords little FuncInfo (given size count (was bytes)) (length (was out)))
+        ⌝ }
 {
     let a = func_info(size, count, bytes, out);
     tell(a, places)
@@ -239,7 +234,13 @@ pub extern "C" fn barkruffle_line_info(
     out: &mut [u8],
     places: &mut [u8],
 ) -> u32
-    ensures { λ r. ⌜ ReadTold (now (places .entry)) (now (places .exit)) (now (out .exit)) r (readRecords little LineInfo (given size count (now (bytes .entry))) (length (now (out .entry)))) ⌝ }
+    ensures { λ r. ⌜ ReadTold
+        (was places)
+        (now (places .exit))
+        (now (out .exit))
+        r
+        (readRecords little LineInfo (given size count (was bytes)) (length (was out)))
+        ⌝ }
 {
     let a = line_info(size, count, bytes, out);
     tell(a, places)
@@ -255,7 +256,7 @@ pub struct Part {
 fn part_of(a: Answer, size: u32, k: u32) -> Part
     ensures { λ r. ⌜ Placed (eqb (replyOf a .number) 0) size k (r .at) (r .len) ⌝ }
 {
-    if number_of(a) != 0 {
+    if number(a) != 0 {
         return Part { at: 0, len: 0 };
     }
     Part {
@@ -267,7 +268,7 @@ fn part_of(a: Answer, size: u32, k: u32) -> Part
 // Record k of struct bpf_func_info, its tail included; (0, 0) where it is refused.
 #[no_mangle]
 pub extern "C" fn barkruffle_func_info_record(size: u32, count: u32, bytes: &[u8], k: u32) -> Part
-    ensures { λ r. ⌜ Stands FuncInfo (given size count (now (bytes .entry))) k (r .at) (r .len) ⌝ }
+    ensures { λ r. ⌜ Stands FuncInfo (given size count (was bytes)) k (r .at) (r .len) ⌝ }
 {
     part_of(func_info_record_number(size, count, bytes, k), size, k)
 }
@@ -275,7 +276,7 @@ pub extern "C" fn barkruffle_func_info_record(size: u32, count: u32, bytes: &[u8
 // The same of struct bpf_line_info.
 #[no_mangle]
 pub extern "C" fn barkruffle_line_info_record(size: u32, count: u32, bytes: &[u8], k: u32) -> Part
-    ensures { λ r. ⌜ Stands LineInfo (given size count (now (bytes .entry))) k (r .at) (r .len) ⌝ }
+    ensures { λ r. ⌜ Stands LineInfo (given size count (was bytes)) k (r .at) (r .len) ⌝ }
 {
     part_of(line_info_record_number(size, count, bytes, k), size, k)
 }
@@ -289,7 +290,7 @@ pub extern "C" fn barkruffle_func_info_record_number(
     k: u32,
     places: &mut [u8],
 ) -> u32
-    ensures { λ r. ⌜ Told (now (places .entry)) (now (places .exit)) r (recordReply little FuncInfo (given size count (now (bytes .entry))) k) ⌝ }
+    ensures { λ r. ⌜ Told (was places) (now (places .exit)) r (recordReply little FuncInfo (given size count (was bytes)) k) ⌝ }
 {
     tell(func_info_record_number(size, count, bytes, k), places)
 }
@@ -303,7 +304,7 @@ pub extern "C" fn barkruffle_line_info_record_number(
     k: u32,
     places: &mut [u8],
 ) -> u32
-    ensures { λ r. ⌜ Told (now (places .entry)) (now (places .exit)) r (recordReply little LineInfo (given size count (now (bytes .entry))) k) ⌝ }
+    ensures { λ r. ⌜ Told (was places) (now (places .exit)) r (recordReply little LineInfo (given size count (was bytes)) k) ⌝ }
 {
     tell(line_info_record_number(size, count, bytes, k), places)
 }

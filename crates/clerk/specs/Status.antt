@@ -4,7 +4,8 @@ use mathlib.Core.Bool.{Bool, true, cond}
 use Prim.Native.Nat.{ℕ}
 use lib.Dec.{eqb}
 use Rattle.tell.specs.declared.words.Told.{Told}
-use Rattle.tell.specs.declared.words.Told.the-variants.{Done, AtTable, AtRow, AtSlot, AtCall, AtFunction, AtRecord, Nowhere}
+use Rattle.clerk.specs.declared.reading.Read.{Read}
+use Rattle.clerk.specs.declared.reading.Read.the-variants.{Whole, NoLengths, Failed, Short, Large}
 
 -- one of two
 abbrev pub either : ℕ → ℕ → ℕ → Bool
@@ -12,11 +13,12 @@ either a b r = cond (eqb r a) true (eqb r b)
 
 -- what a told answer stands for, 0 done and 1 refused
 abbrev pub statusOf : Told → ℕ
-statusOf (Done a b c) = 0
-statusOf (AtTable number table) = 1
-statusOf (AtRow number table row) = 1
-statusOf (AtSlot number function slot) = 1
-statusOf (AtCall number caller slot) = 1
-statusOf (AtFunction number function) = 1
-statusOf (AtRecord number function place) = 1
-statusOf (Nowhere number) = 1
+statusOf told = cond (eqb (told .number) 0) 0 1
+
+-- what a tables file stands for, 0 had whole and 3 not
+abbrev pub readStatus : Read → ℕ
+readStatus Whole = 0
+readStatus NoLengths = 3
+readStatus Failed = 3
+readStatus (Short table) = 3
+readStatus (Large table needs holds) = 3

@@ -1,4 +1,4 @@
-// What bark reads, writes and says: the tables file, the image file, the sentences, the listing, the exit status.
+// The file and terminal side: a tables file read, an image file written, sentences and the listing written out, the exit status.
 pub mod listing;
 pub mod reading;
 pub mod status;

@@ -1,19 +1,19 @@
-// The tables file: eight u32 lengths, then the tables 1 to 8, and nothing after them.
+// A tables file from a descriptor: eight u32 lengths, then the tables 1 to 8, held as files.rt of tell says.
 ghost use mathlib.Core.Path.{_≡_};
-ghost use mathlib.Core.Bool.{true};
 ghost use Prim.Native.Nat.{_≤_, _<_};
 ghost use lib.ListN.{length};
-ghost use Rattle.clerk.specs.Status.{either};
-use crate::status::DONE;
-use crate::status::NO_TABLES;
-use crate::telling;
+ghost use Rattle.clerk.specs.Filled.{Filled, readOf};
+use tell::files::INSTRUCTIONS;
+use tell::files::TABLES;
 use tell::files::length_of;
+use tell::files::start_of;
 use tell::room::TABLE_LENGTHS;
 
-enum Got {
+pub enum Got {
     All,
     Less,
     Failed,
+    NoRoom,
 }
 
 // Fills `buf`. A file that ends before and a read that fails are told apart.
@@ -35,72 +35,98 @@ fn read_all(fd: i32, buf: &mut [u8]) -> Got
     Got::All
 }
 
-pub fn read_lengths(fd: i32, lengths: &mut [u8; TABLE_LENGTHS]) -> u32
-    ensures { λ r. ⌜ ((r ≤ 4) × (either 0 3 r ≡ true)) × (length (now (lengths .exit)) ≡ length (now (lengths .entry))) ⌝ }
+// The n bytes of `buf` from `at` on, where it has them.
+pub fn fill(fd: i32, buf: &mut [u8], at: usize, n: usize) -> Got
+    ensures { λ r. ⌜ Filled at n (now (buf .entry)) (now (buf .exit)) r ⌝ }
 {
-    let got = read_all(fd, lengths);
+    if at > buf.len() {
+        return Got::NoRoom;
+    }
+    if n > buf.len() - at {
+        return Got::NoRoom;
+    }
+    let end = at + n;
+    read_all(fd, &mut buf[at..end])
+}
+
+// How a tables file was had.
+pub enum Read {
+    Whole,
+    NoLengths,
+    Failed,
+    Short(u32),
+    Large { table: u32, needs: u32, holds: u32 },
+}
+
+fn read_of(got: Got, table: u32, needs: u32, holds: u32) -> Read
+    ensures { λ r. ⌜ r ≡ readOf got table needs holds ⌝ }
+{
     match got {
-        Got::All => {
-            return DONE;
-        }
-        Got::Less => {
-            telling::note(b"the tables file ends within its eight lengths");
-            return NO_TABLES;
-        }
-        Got::Failed => {
-            telling::failed(b"TABLES", b"the tables file cannot be read");
-            return NO_TABLES;
-        }
+        Got::All => Read::Whole,
+        Got::Less => Read::Short(table),
+        Got::Failed => Read::Failed,
+        Got::NoRoom => Read::Large {
+            table,
+            needs,
+            holds,
+        },
     }
 }
 
-// Table i + 1, at the start of `buf`.
-pub fn read_table(fd: i32, lengths: &[u8; TABLE_LENGTHS], i: usize, buf: &mut [u8]) -> u32
-    requires { ⌜ i < 8 ⌝ }
-    ensures { λ r. ⌜ ((r ≤ 4) × (either 0 3 r ≡ true)) × (length (now (buf .exit)) ≡ length (now (buf .entry))) ⌝ }
+// Table i + 1, of at most so many bytes.
+fn read_table(fd: i32, most: u32, file: &mut [u8], instructions: &mut [u8], i: usize) -> Read
+    requires { ⌜ (i < 8) × (32 ≤ length (now file)) ⌝ }
+    ensures { λ r. ⌜ (length (now (file .exit)) ≡ length (now (file .entry)))
+        × (length (now (instructions .exit)) ≡ length (now (instructions .entry))) ⌝ }
 {
-    let needs = length_of(lengths, i);
+    let needs = length_of(file, i);
     let table = i as u32 + 1;
-    let n = io::count(needs as isize, buf);
-    if n < needs as usize {
-        telling::too_long(table, needs, buf.len());
-        return NO_TABLES;
+    if needs > most {
+        return read_of(Got::NoRoom, table, needs, most);
     }
-    let got = read_all(fd, &mut buf[..n]);
-    match got {
-        Got::All => {
-            return DONE;
-        }
-        Got::Less => {
-            telling::ends_within(table);
-            return NO_TABLES;
-        }
-        Got::Failed => {
-            telling::failed(b"TABLES", b"the tables file cannot be read");
-            return NO_TABLES;
-        }
+    if i == INSTRUCTIONS {
+        let got = fill(fd, instructions, 0, needs as usize);
+        return read_of(got, table, needs, most);
     }
+    let got = fill(fd, file, start_of(file, i), needs as usize);
+    read_of(got, table, needs, most)
 }
 
-// Nothing stands after the tables, and the file is closed.
-pub fn finish(fd: i32) -> u32
-    ensures { λ r. ⌜ (r ≤ 4) × (either 0 3 r ≡ true) ⌝ }
+// The tables, after the lengths. `room` is what each may need.
+pub fn read_after(fd: i32, room: &[u32; 8], file: &mut [u8], instructions: &mut [u8]) -> Read
+    requires { ⌜ 32 ≤ length (now file) ⌝ }
+    ensures { λ r. ⌜ (length (now (file .exit)) ≡ length (now (file .entry)))
+        × (length (now (instructions .exit)) ≡ length (now (instructions .entry))) ⌝ }
 {
-    let mut more = [0u8; 1];
-    let got = libc::read(fd, &mut more);
-    if got < 0 {
-        telling::failed(b"TABLES", b"the tables file cannot be read");
-        return NO_TABLES;
+    let mut i = 0;
+    while i < TABLES {
+        let read = read_table(fd, room[i], file, instructions, i);
+        let Read::Whole = read else {
+            return read;
+        };
+        i += 1;
     }
-    if got > 0 {
-        telling::note(
-            b"the tables file goes on after table 8 (line records): its lengths do not add up",
-        );
-        return NO_TABLES;
+    Read::Whole
+}
+
+// A whole file.
+pub fn read_tables(fd: i32, room: &[u32; 8], file: &mut [u8], instructions: &mut [u8]) -> Read
+    ensures { λ r. ⌜ (length (now (file .exit)) ≡ length (now (file .entry)))
+        × (length (now (instructions .exit)) ≡ length (now (instructions .entry))) ⌝ }
+{
+    if file.len() < TABLE_LENGTHS {
+        return Read::NoLengths;
     }
-    if libc::close(fd) != 0 {
-        telling::failed(b"TABLES", b"the tables file cannot be closed");
-        return NO_TABLES;
+    let got = fill(fd, file, 0, TABLE_LENGTHS);
+    match got {
+        Got::All => {
+            return read_after(fd, room, file, instructions);
+        }
+        Got::Failed => {
+            return Read::Failed;
+        }
+        _ => {
+            return Read::NoLengths;
+        }
     }
-    DONE
 }

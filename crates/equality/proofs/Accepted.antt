@@ -10,6 +10,7 @@ use native.Mathlib.Omega.{arith}
 use lib.IntN.{ℤ, pos, negsuc}
 use lib.Dec.{eqb}
 use Rattle.rules.specs.Object.{Insn, isCall, isBlank, isWideLoad, decide, meaning, displacement, calling, referring}
+use Rattle.rules.specs.Entries.{mostRoom}
 use Rattle.rules.specs.Faithful.{piece, slotAt}
 use Rattle.rules.specs.Link.{State, Refusal, visit, append, link}
 use Rattle.rules.specs.Bytes.{Fits, half32}
@@ -69,7 +70,7 @@ abbrev pub hidden : Hidden
 hidden = record { values = λ home. only (λ r. eqb (r .home) home) (tables .relocations); maps = tables .maps; func-nums = λ row. 1; line-nums = λ row. 1 }
 
 abbrev pub room : Room
-room = record { slots = 4096; functions = 256; lines = 4096 }
+room = mostRoom
 
 -- the root's six slots, then F: the call 6 − 0 − 1 on, the reference 6 − 1 − 1 on with source register 4
 abbrev pub final : State

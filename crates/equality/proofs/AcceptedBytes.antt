@@ -4,13 +4,14 @@ use mathlib.Core.Path.{_≡_, refl, sym, subst}
 use mathlib.Core.Bool.{Bool, true, _&&_}
 use mathlib.Core.Option.{none}
 use mathlib.Core.List.{List, [], _∷_, _++_}
-use Prim.Native.Nat.{ℕ, zero, suc, _<_}
+use Prim.Native.Nat.{ℕ, zero, suc, _<_, _*_}
 use native.Mathlib.Omega.{arith}
 use lib.Dec.{ltb}
 use borrow.Author.Tests.{ltb-true}
 use Rattle.rules.specs.Bytes.{little, byteAt, bytes4, u16At, u32At, u64At, signed, unsigned, decode, encode, decoded, encoded}
 use Rattle.rules.specs.Tables.{rowOf}
-use Rattle.rules.specs.Rows.{codeSection, symbolIndex, symbolSection, symbolAddress, symbolKind, functionSection, functionSlots, functionAddress, functionOffset, functionFuncInfo, functionLineInfo, relocationSection, relocationSymbol, relocationOffset, relocationSize, mapSection, mapSymbol, mapFd, mapHasData, recordSlot, recordType, recordFile, recordLine, recordColumn, isGood, total, tooMany, firstBroken, brokenIn, broken, Offered, tablesOf, mapStepRefusal, linkRefusal}
+use Rattle.rules.specs.declared.Table.the-variants.{Instructions, FuncInfo, LineInfo}
+use Rattle.rules.specs.Rows.{rowSize, mostImageSlots, mostImageFunctions, mostImageLines, codeSection, symbolIndex, symbolSection, symbolAddress, symbolKind, functionSection, functionSlots, functionAddress, functionOffset, functionFuncInfo, functionLineInfo, relocationSection, relocationSymbol, relocationOffset, relocationSize, mapSection, mapSymbol, mapFd, mapHasData, recordSlot, recordType, recordFile, recordLine, recordColumn, isGood, total, tooMany, firstBroken, brokenIn, broken, Offered, tablesOf, mapStepRefusal, linkRefusal}
 use Rattle.rules.specs.Entries.{Outputs}
 use Rattle.rules.proofs.Passed.{and-left, and-right}
 use Rattle.equality.specs.Domain.{crateOf}
@@ -52,7 +53,11 @@ offered = record {
 
 -- outputs as long as our limits
 abbrev lent : Outputs
-lent = record { image = 32768; funcInfo = 2048; lineInfo = 65536 }
+lent = record {
+  image = rowSize Instructions * mostImageSlots;
+  funcInfo = rowSize FuncInfo * mostImageFunctions;
+  lineInfo = rowSize LineInfo * mostImageLines;
+}
 
 pub offered-is : tablesOf little offered ≡ tables
 unfolding tablesOf decoded decode encoded encode u16At u32At u64At signed unsigned codeSection symbolIndex symbolSection symbolAddress symbolKind functionSection functionSlots functionAddress functionOffset functionFuncInfo functionLineInfo relocationSection relocationSymbol relocationOffset relocationSize mapSection mapSymbol mapFd mapHasData recordSlot recordType recordFile recordLine recordColumn

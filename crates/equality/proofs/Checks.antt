@@ -15,7 +15,7 @@ use Rattle.rules.specs.Object.{Insn, isCall}
 use Rattle.rules.specs.Faithful.{blank, slotAt}
 use Rattle.rules.specs.Link.{Refusal}
 use Rattle.rules.specs.Bytes.{Fits, half32}
-use Rattle.rules.specs.Tables.{SymbolKind, other, text, section, Symbol, Function, Relocation, MapRow, Tables, noFunction, rowOf, base, insnOf, functionRecordsOf, linesOf, Earlier, Rising}
+use Rattle.rules.specs.Tables.{SymbolKind, other, text, section, Symbol, Function, Relocation, MapRow, Tables, noFunction, rowOf, base, insnOf, functionRecordsOf, linesOf, Earlier, RowsRise}
 use Rattle.rules.specs.Maps as Maps
 use Rattle.rules.specs.Maps.{Task, Verdict, skipped, refused, applies, hasNone, isSymbol, fits32, judge, allTasks, firstRefusal, symbolOf, MapOutcome, mapped, mapStep, only}
 use Rattle.rules.specs.Rows.{mostImageSlots, mostImageFunctions, mostImageLines, mostFunctionSlots}
@@ -127,7 +127,7 @@ earlier-by r q e = go (ltb (r .home) (q .home)) refl
           ltb-true (r .offset) (q .offset) (and-right (eqb (r .home) (q .home)) (ltb (r .offset) (q .offset)) rest),
         )
 
-rising-by : (rs : List Relocation) → risingTest rs ≡ true → Rising rs
+rising-by : (rs : List Relocation) → risingTest rs ≡ true → RowsRise rs
 rising-by [] e = tt
 rising-by (r ∷ rs) e = (
   λ q m. earlier-by r q (all-member (earlierTest r) rs (and-left (allb (earlierTest r) rs) (risingTest rs) e) q m),

@@ -8,6 +8,7 @@ use Prim.Native.Nat.{ℕ, zero, suc, _+_, _≤_, _<_}
 use native.Mathlib.Omega.{arith}
 use lib.IntN.{pos, negsuc}
 use Rattle.rules.specs.Object.{Insn, isCall, isBlank, isWideLoad, decide, meaning, displacement, calling, referring}
+use Rattle.rules.specs.Entries.{mostRoom}
 use Rattle.rules.specs.Faithful.{slotAt}
 use Rattle.rules.specs.Link.{visit, append, link}
 use Rattle.rules.specs.Tables.{Tables, objectOf, rowOf, base, insnOf}
@@ -40,7 +41,7 @@ abbrev hidden : Hidden
 hidden = record { values = λ home. []; maps = []; func-nums = λ row. 0; line-nums = λ row. 0 }
 
 abbrev room : Room
-room = record { slots = 4096; functions = 256; lines = 4096 }
+room = mostRoom
 
 plain : (k : ℕ) → Plain (slotAt (tables .instructions) k)
 plain zero = record { byte = omega arith; fits = omega arith }

@@ -7,6 +7,7 @@ use Prim.Native.Nat.{ℕ}
 use lib.IntN.{ℤ, pos, negsuc}
 use lib.Dec.{eqb}
 use Rattle.rules.specs.Object.{Insn}
+use Rattle.rules.specs.Entries.{mostRoom}
 use Rattle.rules.specs.Tables.{SymbolKind, other, text, section, Symbol, Function, Relocation, MapRow, FunctionRecord, LineRecord, Tables}
 use Rattle.rules.specs.Maps.{only}
 use Rattle.rules.specs.Records.{Room}
@@ -28,7 +29,7 @@ abbrev pub hiddenOf : Input → Hidden
 hiddenOf i = record { values = λ home. only (λ r. eqb (r .home) home) (i .rows); maps = i .tables .maps; func-nums = λ row. i .func-num; line-nums = λ row. i .line-num }
 
 abbrev pub fullRoom : Room
-fullRoom = record { slots = 4096; functions = 256; lines = 4096 }
+fullRoom = mostRoom
 
 abbrev pub input : Tables → ℕ → Input
 input tables root = record {

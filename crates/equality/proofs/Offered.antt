@@ -15,14 +15,14 @@ use borrow.Author.Tests.{eq-eqb}
 use Rattle.rules.specs.declared.Table.the-variants.{Functions, Relocations, Maps, Symbols, Instructions}
 use Rattle.rules.specs.Link.{run}
 use Rattle.rules.specs.Bytes.{Order, little, u32At, byteAt, Fits, half32}
-use Rattle.rules.specs.Tables.{Symbol, Function, Relocation, MapRow, Tables, noFunction, rowOf, base, Earlier, Rising}
+use Rattle.rules.specs.Tables.{Symbol, Function, Relocation, MapRow, Tables, noFunction, rowOf, base, Earlier, RowsRise}
 use Rattle.rules.specs.Maps.{symbolOf}
-use Rattle.rules.specs.Rows.{rowSize, wholeRows, noneNumber, anyFrom, sameMap, mapSymbol, mapFd, mapSection, relocationSection, relocationOffset, symbolRow, relocationRow, mapRow, orNone, total, Offered, tablesOf, mapStepRefusal, linkRefusal}
+use Rattle.rules.specs.Rows.{rowSize, mostFunctionSlots, wholeRows, noneNumber, anyFrom, sameMap, mapSymbol, mapFd, mapSection, relocationSection, relocationOffset, symbolRow, relocationRow, mapRow, orNone, total, Offered, tablesOf, mapStepRefusal, linkRefusal}
 use Rattle.rules.specs.Lookups.{Sound, RisingPair, Checked}
 use Rattle.rules.specs.Entries.{Outputs, roomIn}
 use Rattle.rules.proofs.Rounds.{u32-below}
 use Rattle.rules.proofs.Writing.{decoded-length}
-use Rattle.rules.proofs.Passed.{good-symbol, good-function, functions-rise, relocations-rise, good-map}
+use Rattle.rules.proofs.Passed.{good-symbol, good-function, functions-rise, rows-rise, good-map}
 use Rattle.rules.proofs.Refusing.{map-checked, root-is-row}
 use Rattle.rules.proofs.Reading.{rows-are, row-is, base-is}
 use Rattle.equality.specs.Domain.{2⁴⁸, Limits, RoomLimits, Once}
@@ -46,16 +46,6 @@ in-run f x from (suc n) m = go (List·Memᴰ·cases-cons m) (λ m. in-run f x (s
     go (inr m) later =
         let k = later m in
         record { row = k .row; low = omega (arith, k .low); high = omega (arith, k .high); is = k .is }
-
--- table 4 rises
-rising-run : (t : List ℕ) (rows : ℕ) → RisingPair (relocationSection t) (relocationOffset t) rows
-    → (from n : ℕ) → from + n ≤ rows → Rising (run (relocationRow t) from n)
-unfolding RisingPair
-rising-run t rows rise from zero l = tt
-rising-run t rows rise from (suc n) l = (λ q m. go q (in-run (relocationRow t) q (suc from) n m), rising-run t rows rise (suc from) n (omega arith))
-  where
-    go : (q : Relocation) → InRun (relocationRow t) q (suc from) n → Earlier (relocationRow t from) q
-    go q k = subst (Earlier (relocationRow t from)) (sym (k .is)) (rise from (k .row) (omega (arith, k .low)) (omega (arith, k .high)))
 
 -- no symbol of table 5 stands twice
 none-passes : (test : ℕ → Bool) (from n : ℕ) → anyFrom test from n ≡ false → (j : ℕ) → from ≤ j → j < from + n → test j ≡ false
@@ -134,10 +124,10 @@ module _ (order : Order) (o : Offered) (passed : mapStepRefusal o ≡ none) wher
       by-row (λ f. f .offset < 2⁴⁸) (omega arith)
       (λ row l. rw (row-is order o row l) (omega (arith, good-function (o .functions) (checked .functions) row l .offset)))
 
-  pub slots-few : (row : ℕ) → rowOf tables row .slots ≤ 4096
+  pub slots-few : (row : ℕ) → rowOf tables row .slots ≤ mostFunctionSlots
   unfolding rows
   slots-few =
-      by-row (λ f. f .slots ≤ 4096) (omega arith)
+      by-row (λ f. f .slots ≤ mostFunctionSlots) (omega arith)
       (λ row l. rw (row-is order o row l) (omega (arith, good-function (o .functions) (checked .functions) row l .slots-high)))
 
   pub symbols-low : (r : Relocation) (s : Symbol) → symbolOf tables r ≡ some s → s .address < 2⁴⁸
@@ -170,9 +160,9 @@ module _ (order : Order) (o : Offered) (passed : mapStepRefusal o ≡ none) wher
   pub offered-whole : (row : ℕ) → base tables row + rowOf tables row .slots ≤ length (tables .instructions)
   offered-whole = whole-table tables (sym held)
 
-  pub offered-rising : Rising (tables .relocations)
+  pub offered-rising : RowsRise (tables .relocations)
   unfolding tablesOf
-  offered-rising = rising-run (o .relocations) (wholeRows Relocations (o .relocations)) (relocations-rise (o .relocations) (checked .relocations)) 0 (wholeRows Relocations (o .relocations)) (omega arith)
+  offered-rising = rows-rise (o .relocations) (checked .relocations)
 
   pub offered-once : Once (tables .maps)
   unfolding tablesOf

@@ -9,6 +9,7 @@ use lib.IntN.{pos}
 use lib.Dec.{eqb}
 use lib.ListN.{length}
 use Rattle.rules.specs.Object.{Insn, isCall, isBlank, isWideLoad, decide, meaning, displacement, calling, referring}
+use Rattle.rules.specs.Entries.{mostRoom}
 use Rattle.rules.specs.Link.{Outcome, linked, refuses, unfinished, visit, append, link}
 use Rattle.rules.specs.Bytes.{little, signed, u16At, u32At, decode, decoded}
 use Rattle.rules.specs.Tables.{SymbolKind, other, text, section, Symbol, Function, Relocation, MapRow, Tables, rowOf, objectOf}
@@ -39,7 +40,7 @@ seenCrate panics = panicked
 seenCrate too-deep = never
 
 abbrev room : Room
-room = record { slots = 4096; functions = 256; lines = 4096 }
+room = mostRoom
 
 abbrev sym : ℕ → ℕ → ℕ → SymbolKind → Symbol
 sym index home address kind = record { index = index; home = some home; address = address; kind = kind }

@@ -14,7 +14,7 @@ use lib.ListN.{length, getD, List·getD-eq-default}
 use borrow.Author.Tests.{ltb-true, ltb-false}
 use Rattle.rules.specs.Faithful.{blank, slotAt}
 use Rattle.rules.specs.Bytes.{Order, signed, Fits, half32, byteAt, u32At, decode, decoded}
-use Rattle.rules.specs.Tables.{Function, Relocation, Tables, noFunction, before, rowOf, base, Earlier, Rising}
+use Rattle.rules.specs.Tables.{Function, Relocation, Tables, noFunction, before, rowOf, base, Earlier, RowsRise}
 use Rattle.equality.specs.Domain.{Plain}
 use Rattle.rules.proofs.Rounds.{u32-below}
 use Rattle.rules.proofs.Writing.{decoded-at, decoded-length}
@@ -62,7 +62,7 @@ all-later r (x ∷ xs) steps q m = go (List·Memᴰ·cases-cons m) (λ m. all-la
     go (inl e) later = rw e (steps .0)
     go (inr m) later = earlier-trans r x q (steps .0) (later m)
 
-pub steps-rise : (rs : List Relocation) → Steps rs → Rising rs
+pub steps-rise : (rs : List Relocation) → Steps rs → RowsRise rs
 steps-rise [] steps = tt
 steps-rise (r ∷ []) steps = (λ q m. absurd (List·Memᴰ·not-nil m), tt)
 steps-rise (r ∷ q ∷ rs) steps = (all-later r (q ∷ rs) steps, steps-rise (q ∷ rs) (steps .1))

@@ -8,7 +8,7 @@ use lib.ListN.{length}
 use Rattle.rules.specs.Object.{Insn}
 use Rattle.rules.specs.Link.{State, Refusal, Outcome, linked, refuses, unfinished}
 use Rattle.rules.specs.Bytes.{Fits, half32}
-use Rattle.rules.specs.Tables.{MapRow, Tables, Rising, rowOf, base}
+use Rattle.rules.specs.Tables.{MapRow, Tables, RowsRise, rowOf, base}
 use Rattle.rules.specs.Maps as Maps
 use Rattle.rules.specs.Maps.{MapOutcome, mapped, mapStep}
 use Rattle.rules.specs.Records.{Room, imageFunctions, imageLines, linkStep}
@@ -55,7 +55,7 @@ pub record Valid (tables : Tables) (room : Room) (root : ℕ) : Type 0 where
   -- table 6 holds every function's slots
   pub whole : (row : ℕ) → base tables row + rowOf tables row .slots ≤ length (tables .instructions)
   -- table 4: (section, offset) strictly rising
-  pub rising : Rising (tables .relocations)
+  pub rising : RowsRise (tables .relocations)
   -- table 5: no symbol twice; fd i32
   pub once : Once (tables .maps)
   pub fds : (m : MapRow) → List·Memᴰ m (tables .maps) → Fits half32 (m .fd)

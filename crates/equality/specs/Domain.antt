@@ -13,7 +13,7 @@ use Rattle.rules.specs.Object.{Insn, isCall}
 use Rattle.rules.specs.Faithful.{slotAt}
 use Rattle.rules.specs.Link.{Refusal, run}
 use Rattle.rules.specs.Bytes.{Fits, half32}
-use Rattle.rules.specs.Tables.{text, Symbol, Relocation, MapRow, Tables, first, rowOf, base, insnOf, functionRecordsOf, linesOf, isCode, relocationAt, objectOf, Rising}
+use Rattle.rules.specs.Tables.{text, Symbol, Relocation, MapRow, Tables, first, rowOf, base, insnOf, functionRecordsOf, linesOf, isCode, relocationAt, objectOf, RowsRise}
 use Rattle.rules.specs.Maps.{Task, only, refused, judge, allTasks, firstRefusal, symbolOf}
 use Rattle.rules.specs.Rows.{mostImageSlots, mostImageFunctions, mostImageLines, mostFunctionSlots}
 use Rattle.rules.specs.Records.{Room, admits, rootAdmits}
@@ -184,7 +184,7 @@ pub record MapDomain (tables : Tables) (hidden : Hidden) : Type 0 where
   -- "Valid tables in our limits": table 6 holds every function's slots, table 4 rises, table 5 has no symbol twice
   pub limits : Limits tables
   pub whole : (row : ℕ) → base tables row + rowOf tables row .slots ≤ length (tables .instructions)
-  pub rising : Rising (tables .relocations)
+  pub rising : RowsRise (tables .relocations)
   pub once : Once (tables .maps)
   pub clauses : MapClauses tables hidden
 

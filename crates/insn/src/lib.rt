@@ -10,6 +10,7 @@ ghost use Prim.Native.Nat.{_+_, _*_, _≤_, _<_, _^_};
 ghost use lib.IntN.{pos, _+ℤ_};
 ghost use lib.ListN.{length};
 ghost use Rattle.rules.specs.Bytes.{little, slotIn, slotSize, immediateStored, sourceStored};
+ghost use Rattle.rules.specs.Lent.{was};
 ghost use Rattle.rules.specs.Object.{isCall, isBlank};
 ghost use Rattle.rules.specs.Object as object;
 ghost use Rattle.rules.specs.Tables.{isAt};
@@ -110,7 +111,7 @@ pub fn start_of(slot: Slot) -> usize
 
 pub fn opcode(code: &[u8], slot: Slot) -> u8
     requires { ⌜ slotSize * slot .0 + slotSize ≤ length (now code) ⌝ }
-    ensures { λ r. ⌜ r ≡ slotIn little (now (code .entry)) (slot .0) .opcode ⌝ }
+    ensures { λ r. ⌜ r ≡ slotIn little (was code) (slot .0) .opcode ⌝ }
 {
     let at = start_of(slot);
     code[at]
@@ -118,7 +119,7 @@ pub fn opcode(code: &[u8], slot: Slot) -> u8
 
 pub fn destination(code: &[u8], slot: Slot) -> u8
     requires { ⌜ slotSize * slot .0 + slotSize ≤ length (now code) ⌝ }
-    ensures { λ r. ⌜ r ≡ slotIn little (now (code .entry)) (slot .0) .destination ⌝ }
+    ensures { λ r. ⌜ r ≡ slotIn little (was code) (slot .0) .destination ⌝ }
 {
     let at = start_of(slot);
     code[at + 1] % 16
@@ -126,7 +127,7 @@ pub fn destination(code: &[u8], slot: Slot) -> u8
 
 pub fn source(code: &[u8], slot: Slot) -> u8
     requires { ⌜ slotSize * slot .0 + slotSize ≤ length (now code) ⌝ }
-    ensures { λ r. ⌜ r ≡ slotIn little (now (code .entry)) (slot .0) .source ⌝ }
+    ensures { λ r. ⌜ r ≡ slotIn little (was code) (slot .0) .source ⌝ }
 {
     let at = start_of(slot);
     code[at + 1] / 16
@@ -134,14 +135,14 @@ pub fn source(code: &[u8], slot: Slot) -> u8
 
 pub fn offset(code: &[u8], slot: Slot) -> i16
     requires { ⌜ slotSize * slot .0 + slotSize ≤ length (now code) ⌝ }
-    ensures { λ r. ⌜ r ≡ slotIn little (now (code .entry)) (slot .0) .offset ⌝ }
+    ensures { λ r. ⌜ r ≡ slotIn little (was code) (slot .0) .offset ⌝ }
 {
     i16_at(code, start_of(slot) + 2)
 }
 
 pub fn immediate(code: &[u8], slot: Slot) -> i32
     requires { ⌜ slotSize * slot .0 + slotSize ≤ length (now code) ⌝ }
-    ensures { λ r. ⌜ r ≡ slotIn little (now (code .entry)) (slot .0) .immediate ⌝ }
+    ensures { λ r. ⌜ r ≡ slotIn little (was code) (slot .0) .immediate ⌝ }
 {
     i32_at(code, start_of(slot) + 4)
 }
@@ -149,21 +150,21 @@ pub fn immediate(code: &[u8], slot: Slot) -> i32
 // Opcode 85 hex, register byte 10 hex, offset 0: one word.
 pub fn insn_is_call(code: &[u8], slot: Slot) -> bool
     requires { ⌜ slotSize * slot .0 + slotSize ≤ length (now code) ⌝ }
-    ensures { λ r. ⌜ r ≡ isCall (slotIn little (now (code .entry)) (slot .0)) ⌝ }
+    ensures { λ r. ⌜ r ≡ isCall (slotIn little (was code) (slot .0)) ⌝ }
 {
     u32_at(code, start_of(slot)) == 0x1085
 }
 
 pub fn is_blank(code: &[u8], slot: Slot) -> bool
     requires { ⌜ slotSize * slot .0 + slotSize ≤ length (now code) ⌝ }
-    ensures { λ r. ⌜ r ≡ isBlank (slotIn little (now (code .entry)) (slot .0)) ⌝ }
+    ensures { λ r. ⌜ r ≡ isBlank (slotIn little (was code) (slot .0)) ⌝ }
 {
     u32_at(code, start_of(slot)) == 0
 }
 
 pub fn is_wide_load(code: &[u8], slot: Slot, end: Slot) -> bool
     requires { ⌜ (slot .0 < end .0) × (slotSize * end .0 ≤ length (now code)) ⌝ }
-    ensures { λ r. ⌜ r ≡ wideLoadIn (now (code .entry)) (slot .0) (end .0) ⌝ }
+    ensures { λ r. ⌜ r ≡ wideLoadIn (was code) (slot .0) (end .0) ⌝ }
 {
     if opcode(code, slot) != 0x18 {
         return false;
@@ -177,14 +178,14 @@ pub fn is_wide_load(code: &[u8], slot: Slot, end: Slot) -> bool
 
 pub fn set_immediate(code: &mut [u8], slot: Slot, imm: i32)
     requires { ⌜ slotSize * slot .0 + slotSize ≤ length (now code) ⌝ }
-    ensures { λ _. ⌜ now (code .exit) ≡ immediateStored little (now (code .entry)) (slot .0) imm ⌝ }
+    ensures { λ _. ⌜ now (code .exit) ≡ immediateStored little (was code) (slot .0) imm ⌝ }
 {
     put_i32(code, start_of(slot) + 4, imm);
 }
 
 pub fn set_source(code: &mut [u8], slot: Slot, r: u8)
     requires { ⌜ (slotSize * slot .0 + slotSize ≤ length (now code)) × (r < 16) ⌝ }
-    ensures { λ _. ⌜ now (code .exit) ≡ sourceStored little r (now (code .entry)) (slot .0) ⌝ }
+    ensures { λ _. ⌜ now (code .exit) ≡ sourceStored little r (was code) (slot .0) ⌝ }
 {
     let at = start_of(slot) + 1;
     code[at] = code[at] % 16 + 16 * r;

@@ -1,52 +1,62 @@
--- The judgement of row k of table 4 in a function, as the map step has it, whatever table 6 held at first.
+-- The judgement of row k of table 4 in a function, as the map step has it.
 -- Assumes nothing.
 use mathlib.Core.Path.{_≡_}
 use mathlib.Core.List.{List}
 use Prim.Native.Nat.{ℕ, suc, _+_, _-_, _*_, _/_, _≤_, _<_}
 use lib.ListN.{length}
 use Rattle.rules.specs.declared.Table.the-variants.{Functions, Relocations}
+use Rattle.rules.specs.Object.{Insn}
 use Rattle.rules.specs.Bytes.{little, decoded, slotSize}
 use Rattle.rules.specs.Tables.{Tables}
 use Rattle.rules.specs.Maps as step
 use Rattle.rules.specs.Maps.{Task, task}
-use Rattle.rules.specs.Rows.{wholeRows, summed, Offered, mapStepOffer, tablesOf, functionSlots, functionOffset, relocationOffset, relocationRow}
+use Rattle.rules.specs.Rows.{wholeRows, summed, Offered, tablesOf, functionSlots, functionOffset, relocationOffset, relocationRow}
 use Rattle.rules.specs.Lookups.{MapChecked}
 use Rattle.judge.specs.declared.Verdict.{Verdict}
 use Rattle.judge.specs.Verdicts.{verdictOf, PlacedAt}
 
--- tables 1 to 5, which the map step only reads
-pub record Lent : Type 0 where
-  pub code : List ℕ
-  pub symbols : List ℕ
-  pub functions : List ℕ
-  pub relocations : List ℕ
-  pub maps : List ℕ
+-- the same tables with other bytes as table 6
+abbrev pub withInstructions : Offered → List ℕ → Offered
+withInstructions o bytes = record {
+  code = o .code;
+  symbols = o .symbols;
+  functions = o .functions;
+  relocations = o .relocations;
+  maps = o .maps;
+  instructions = bytes;
+  funcInfo = o .funcInfo;
+  lineInfo = o .lineInfo;
+}
 
-abbrev pub lent : List ℕ → List ℕ → List ℕ → List ℕ → List ℕ → Lent
-lent code symbols functions relocations maps = record { code = code; symbols = symbols; functions = functions; relocations = relocations; maps = maps }
+-- the tables read, and the slots of table 6
+abbrev pub tables : Offered → Tables
+tables o = tablesOf little o
 
-abbrev pub offer : Lent → List ℕ → Offered
-offer l table6 = mapStepOffer (l .code) (l .symbols) (l .functions) (l .relocations) (l .maps) table6
+abbrev pub slotsOf : Offered → List Insn
+slotsOf o = decoded little (o .instructions)
 
-abbrev pub tables : Lent → List ℕ → Tables
-tables l table6 = tablesOf little (offer l table6)
-
-abbrev pub taskOf : Lent → ℕ → ℕ → Task
-taskOf l row k = task row (relocationRow (l .relocations) k)
+abbrev pub taskOf : Offered → ℕ → ℕ → Task
+taskOf o row k = task row (relocationRow (o .relocations) k)
 
 -- "slot rounded down"
-abbrev pub slotOf : Lent → ℕ → ℕ → ℕ
-slotOf l row k = (relocationOffset (l .relocations) k - functionOffset (l .functions) row) / 8
+abbrev pub slotOf : Offered → ℕ → ℕ → ℕ
+slotOf o row k = (relocationOffset (o .relocations) k - functionOffset (o .functions) row) / 8
 
-pub record Asked (l : Lent) (instructions : List ℕ) (row first k : ℕ) : Type 0 where
-  pub checked : MapChecked (offer l instructions)
-  pub row-inside : row < wholeRows Functions (l .functions)
-  pub first-is : first ≡ summed (functionSlots (l .functions)) 0 row
-  pub k-inside : k < wholeRows Relocations (l .relocations)
+-- checked tables, a function, and its first slot in table 6
+pub record RowAsked (o : Offered) (row first : ℕ) : Type 0 where
+  pub checked : MapChecked o
+  pub row-inside : row < wholeRows Functions (o .functions)
+  pub first-is : first ≡ summed (functionSlots (o .functions)) 0 row
+
+-- and a row of table 4
+pub record Asked (o : Offered) (row first k : ℕ) : Type 0 where
+  pub of-row : RowAsked o row first
+  pub k-inside : k < wholeRows Relocations (o .relocations)
 
 abbrev pub Inside : List ℕ → ℕ → Type 0
 Inside instructions here = slotSize * here + slotSize ≤ length instructions
 
-pub record Judges (l : Lent) (instructions : List ℕ) (row first k : ℕ) (r : Verdict) : Type 0 where
-  pub says : (table6 : List ℕ) → verdictOf r ≡ step.judge (tables l table6) (decoded little instructions) (taskOf l row k)
-  pub places : PlacedAt row (slotOf l row k) (first + slotOf l row k) (Inside instructions (first + slotOf l row k)) (Inside instructions (suc (first + slotOf l row k))) r
+pub record Judges (o : Offered) (row first k : ℕ) (r : Verdict) : Type 0 where
+  pub says : verdictOf r ≡ step.judge (tables o) (slotsOf o) (taskOf o row k)
+  pub places : PlacedAt row (slotOf o row k) (first + slotOf o row k)
+      (Inside (o .instructions) (first + slotOf o row k)) (Inside (o .instructions) (suc (first + slotOf o row k))) r

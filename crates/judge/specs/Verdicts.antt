@@ -11,11 +11,13 @@ use lib.ListN.{length}
 use Rattle.rules.specs.declared.Table.the-variants.{Code, Symbols, Maps}
 use Rattle.rules.specs.Object.{isCall}
 use Rattle.rules.specs.Bytes.{little, slotIn, slotSize}
-use Rattle.rules.specs.Answers.{replyOf}
+use Rattle.rules.specs.declared.Cause.{Cause}
+use Rattle.rules.specs.declared.Cause.the-variants.{UnknownSymbol}
+use Rattle.rules.specs.Answers.{numberOf, refusedReply}
 use Rattle.rules.specs.Tables.{Tables}
 use Rattle.rules.specs.Maps as step
 use Rattle.rules.specs.Maps.{orElse, change, byData, byMap, byKind}
-use Rattle.rules.specs.Rows.{rowSize, orNone, kindOf, symbolSection, symbolAddress, symbolKind, mapFd, mapHasData, mapRow}
+use Rattle.rules.specs.Rows.{rowSize, withData, orNone, kindOf, symbolSection, symbolAddress, symbolKind, mapFd, mapHasData, mapRow}
 use Rattle.rules.specs.Lookups.{Sound, isCodeSection, symbolWith, mapWithSymbol, mapOfSection}
 use Rattle.rules.proofs.Searches.{read}
 use Rattle.insn.specs.Wide.{wideLoadIn}
@@ -25,23 +27,26 @@ use Rattle.judge.specs.declared.Verdict.the-variants.{Skipped, Refused, 
 
 abbrev pub verdictOf : Verdict → step.Verdict
 verdictOf Skipped = step.skipped
-verdictOf (Refused a) = step.refused (replyOf a .number)
+verdictOf (Refused a) = step.refused (refusedReply a .number)
 verdictOf (Plain here fd) = step.applies (change fd none)
 verdictOf (Valued here fd value) = step.applies (change fd (some value))
 
 -- a refusal's places; and the slot that is to be rewritten, where the next must be one of the function's too
 abbrev pub PlacedAt : ℕ → ℕ → ℕ → Type 0 → Type 0 → Verdict → Type 0
 PlacedAt row slot here inside next Skipped = Unit {0}
-PlacedAt row slot here inside next (Refused a) = replyOf a .places ≡ (row ∷ slot ∷ 0 ∷ [])
+PlacedAt row slot here inside next (Refused a) = refusedReply a .places ≡ (row ∷ slot ∷ 0 ∷ [])
 PlacedAt row slot here inside next (Plain at fd) = (at .0 ≡ here) × inside
 PlacedAt row slot here inside next (Valued at fd value) = (at .0 ≡ here) × next
 
 -- ---- by rows. The tables are not looked at
+abbrev pub refusedFor : Cause → Tables → step.Verdict
+refusedFor cause tables = step.refused (numberOf cause)
+
 abbrev pub mapFound : List ℕ → ℕ → ℕ → Option ℕ
 mapFound maps symbol home = orElse (mapWithSymbol maps symbol) (mapOfSection maps home)
 
 abbrev pub dataVerdict : List ℕ → ℕ → ℕ → Site → Tables → step.Verdict
-dataVerdict maps m address site tables = byData tables (eqb (mapHasData maps m) 1) (mapFd maps m) (site .imm +ℤ pos address)
+dataVerdict maps m address site tables = byData tables (eqb (mapHasData maps m) withData) (mapFd maps m) (site .imm +ℤ pos address)
 
 abbrev pub mapVerdict : List ℕ → ℕ → ℕ → ℕ → Site → Tables → step.Verdict
 mapVerdict maps symbol home address site tables = byMap tables (read (mapRow maps) (mapFound maps symbol home)) (site .wide) (site .imm +ℤ pos address)
@@ -56,7 +61,7 @@ abbrev pub rowVerdict : List ℕ → List ℕ → List ℕ → ℕ → ℕ → S
 rowVerdict code symbols maps s symbol site tables = homeVerdict code symbols maps s symbol site tables (orNone (symbolSection symbols s))
 
 abbrev pub foundVerdict : List ℕ → List ℕ → List ℕ → ℕ → Site → Tables → Option ℕ → step.Verdict
-foundVerdict code symbols maps symbol site tables none = step.refused 3
+foundVerdict code symbols maps symbol site tables none = refusedFor UnknownSymbol tables
 foundVerdict code symbols maps symbol site tables (some s) = rowVerdict code symbols maps s symbol site tables
 
 abbrev pub symbolVerdict : List ℕ → List ℕ → List ℕ → ℕ → Site → Tables → step.Verdict

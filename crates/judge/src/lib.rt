@@ -1,4 +1,5 @@
 // One relocation tried in one function: skipped, refused, or how its slot is to be rewritten.
+use answers::refusal;
 use insn::immediate;
 use insn::insn_is_call;
 use insn::is_wide_load;
@@ -20,24 +21,24 @@ use rows::find::find_map_section;
 use rows::find::find_map_symbol;
 use rows::find::find_symbol;
 use rows::find::is_code;
-use rules::Answer;
 use rules::ByteOffset;
+use rules::Cause;
 use rules::Found;
+use rules::Refusal;
 use rules::Slot;
+use rules::limits::HAS_DATA;
+use rules::limits::NONE;
+use rules::limits::TEXT;
 ghost use mathlib.Core.Path.{_≡_};
-ghost use Prim.Native.Nat.{_+_, _<_, _^_};
+ghost use Prim.Native.Nat.{_<_, _^_};
 ghost use Rattle.rules.specs.declared.Table.the-variants.{Symbols, Maps};
 ghost use Rattle.rules.specs.Rows.{wholeRows};
 ghost use Rattle.rules.specs.Lookups.{Sound, foundOf};
 ghost use Rattle.rules.specs.Maps.{fits32};
-ghost use Rattle.judge.specs.Verdicts.{mapFound, Says, dataVerdict, mapVerdict, rowVerdict, symbolVerdict, SiteAt, SiteAsked, DataAsked, Tabled};
-ghost use Rattle.judge.specs.Judged.{lent, Asked, Judges};
-
-const NONE: u32 = 0xFFFF_FFFF;
-
-const TEXT: u8 = 1;
-
-const HAS_DATA: u8 = 1;
+ghost use Rattle.rules.specs.Lent.{was, offeredMaps, lentMaps};
+ghost use Rattle.judge.specs.Verdicts.{mapFound, dataVerdict, mapVerdict, rowVerdict, symbolVerdict, refusedFor};
+ghost use Rattle.judge.specs.Verdicts.{Says, SiteAt, SiteAsked, DataAsked, Tabled};
+ghost use Rattle.judge.specs.Judged.{Asked, Judges};
 
 const LEAST: i64 = -0x8000_0000;
 
@@ -45,7 +46,7 @@ const MOST: i64 = 0x7FFF_FFFF;
 
 pub enum Verdict {
     Skipped,
-    Refused(Answer),
+    Refused(Refusal),
     // no data: the slot, fd
     Plain(Slot, i32),
     // with data: the slot, fd, the next slot's immediate
@@ -62,6 +63,13 @@ pub struct Site {
     pub wide: bool,
 }
 
+fn refused(cause: Cause, site: Site) -> Verdict
+    ensures { λ r. ⌜ Says site (refusedFor cause) r ⌝ }
+{
+    let at = site.slot;
+    Verdict::Refused(refusal(cause, site.row, at.0))
+}
+
 fn fits(sum: i64) -> bool
     ensures { λ r. ⌜ r ≡ fits32 sum ⌝ }
 {
@@ -70,7 +78,7 @@ fn fits(sum: i64) -> bool
 
 fn find_map(maps: &[u8], symbol: u32, home: u32) -> Found
     requires { ⌜ Sound Maps (now maps) ⌝ }
-    ensures { λ r. ⌜ r ≡ foundOf (mapFound (now (maps .entry)) symbol home) ⌝ }
+    ensures { λ r. ⌜ r ≡ foundOf (mapFound (was maps) symbol home) ⌝ }
 {
     let found = find_map_symbol(maps, symbol);
     match found {
@@ -81,7 +89,7 @@ fn find_map(maps: &[u8], symbol: u32, home: u32) -> Found
 
 fn by_data(maps: &[u8], m: usize, address: ByteOffset, site: Site) -> Verdict
     requires { ⌜ DataAsked (now maps) m (address .0) site ⌝ }
-    ensures { λ r. ⌜ Says site (dataVerdict (now (maps .entry)) m (address .0) site) r ⌝ }
+    ensures { λ r. ⌜ Says site (dataVerdict (was maps) m (address .0) site) r ⌝ }
 {
     let fd = map_fd(maps, m);
     let here = site.here;
@@ -91,7 +99,7 @@ fn by_data(maps: &[u8], m: usize, address: ByteOffset, site: Site) -> Verdict
     let imm = site.imm;
     let sum = value(imm, address);
     if !fits(sum) {
-        return Verdict::Refused(Answer::ValueOutside(site.row, site.slot.0));
+        return refused(Cause::ValueOutside, site);
     }
     let next = sum as i32;
     Verdict::Valued(here, fd, next)
@@ -99,13 +107,13 @@ fn by_data(maps: &[u8], m: usize, address: ByteOffset, site: Site) -> Verdict
 
 fn by_map(maps: &[u8], symbol: u32, home: u32, address: ByteOffset, site: Site) -> Verdict
     requires { ⌜ Sound Maps (now maps) × (address .0 < 2 ^ 48) ⌝ }
-    ensures { λ r. ⌜ Says site (mapVerdict (now (maps .entry)) symbol home (address .0) site) r ⌝ }
+    ensures { λ r. ⌜ Says site (mapVerdict (was maps) symbol home (address .0) site) r ⌝ }
 {
     let Found::At(m) = find_map(maps, symbol, home) else {
-        return Verdict::Refused(Answer::SectionNotFound(site.row, site.slot.0));
+        return refused(Cause::SectionNotFound, site);
     };
     if !site.wide {
-        return Verdict::Refused(Answer::NotWideLoad(site.row, site.slot.0));
+        return refused(Cause::NotWideLoad, site);
     }
     by_data(maps, m, address, site)
 }
@@ -113,7 +121,7 @@ fn by_map(maps: &[u8], symbol: u32, home: u32, address: ByteOffset, site: Site) 
 // By the row of the symbol in table 2.
 fn by_row(code: &[u8], symbols: &[u8], maps: &[u8], s: usize, symbol: u32, site: Site) -> Verdict
     requires { ⌜ Tabled (now code) (now symbols) (now maps) × (s < wholeRows Symbols (now symbols)) ⌝ }
-    ensures { λ r. ⌜ Says site (rowVerdict (now (code .entry)) (now (symbols .entry)) (now (maps .entry)) s symbol site) r ⌝ }
+    ensures { λ r. ⌜ Says site (rowVerdict (was code) (was symbols) (was maps) s symbol site) r ⌝ }
 {
     let home = symbol_section(symbols, s);
     if home == NONE {
@@ -126,29 +134,29 @@ fn by_row(code: &[u8], symbols: &[u8], maps: &[u8], s: usize, symbol: u32, site:
         return Verdict::Skipped;
     }
     if symbol_kind(symbols, s) == TEXT {
-        return Verdict::Refused(Answer::SectionNotFound(site.row, site.slot.0));
+        return refused(Cause::SectionNotFound, site);
     }
-    let address = offset_at(symbol_address(symbols, s));
+    let address = symbol_address(symbols, s);
     by_map(maps, symbol, home, address, site)
 }
 
 fn by_symbol(code: &[u8], symbols: &[u8], maps: &[u8], symbol: u32, site: Site) -> Verdict
     requires { ⌜ Tabled (now code) (now symbols) (now maps) ⌝ }
-    ensures { λ r. ⌜ Says site (symbolVerdict (now (code .entry)) (now (symbols .entry)) (now (maps .entry)) symbol site) r ⌝ }
+    ensures { λ r. ⌜ Says site (symbolVerdict (was code) (was symbols) (was maps) symbol site) r ⌝ }
 {
     let Found::At(s) = find_symbol(symbols, symbol) else {
-        return Verdict::Refused(Answer::UnknownSymbol(site.row, site.slot.0));
+        return refused(Cause::UnknownSymbol, site);
     };
     by_row(code, symbols, maps, s, symbol, site)
 }
 
 // The slot of a function of `slots` slots, the first of them at `first` in table 6.
-fn read_site(instructions: &[u8], row: u32, slot: Slot, first: u32, slots: u32) -> Site
-    requires { ⌜ SiteAsked (now instructions) (slot .0) first slots ⌝ }
-    ensures { λ r. ⌜ SiteAt (now (instructions .entry)) row (slot .0) first slots r ⌝ }
+fn read_site(instructions: &[u8], row: u32, slot: Slot, first: u32, slots: Slot) -> Site
+    requires { ⌜ SiteAsked (now instructions) (slot .0) first (slots .0) ⌝ }
+    ensures { λ r. ⌜ SiteAt (was instructions) row (slot .0) first (slots .0) r ⌝ }
 {
     let here = slot_at(first + slot.0);
-    let end = slot_at(first + slots);
+    let end = slot_at(first + slots.0);
     let imm = immediate(instructions, here);
     let call = insn_is_call(instructions, here);
     let wide = is_wide_load(instructions, here, end);
@@ -174,24 +182,24 @@ pub fn judge(
     first: u32,
     k: usize,
 ) -> Verdict
-    requires { ⌜ Asked (lent (now code) (now symbols) (now functions) (now relocations) (now maps)) (now instructions) row first k ⌝ }
-    ensures { λ r. ⌜ Judges (lent (now (code .entry)) (now (symbols .entry)) (now (functions .entry)) (now (relocations .entry)) (now (maps .entry))) (now (instructions .entry)) row first k r ⌝ }
+    requires { ⌜ Asked (offeredMaps code symbols functions relocations maps instructions) row first k ⌝ }
+    ensures { λ r. ⌜ Judges (lentMaps code symbols functions relocations maps instructions) row first k r ⌝ }
 {
     let offset = relocation_offset(relocations, k);
     let start = function_offset(functions, row);
     let slots = function_slots(functions, row);
-    if offset < start {
+    if offset.0 < start.0 {
         return Verdict::Skipped;
     }
-    let at = offset - start;
-    let size = to_offset(slot_at(slots));
-    if at >= size.0 {
+    let at = offset_at(offset.0 - start.0);
+    let size = to_offset(slots);
+    if at.0 >= size.0 {
         return Verdict::Skipped;
     }
-    let slot = to_slot(offset_at(at));
+    let slot = to_slot(at);
     let function = row as u32;
-    if at % 8 != 0 {
-        return Verdict::Refused(Answer::InvalidRelocationOffset(function, slot.0));
+    if at.0 % 8 != 0 {
+        return Verdict::Refused(refusal(Cause::InvalidRelocationOffset, function, slot.0));
     }
     let site = read_site(instructions, function, slot, first, slots);
     let symbol = relocation_symbol(relocations, k);

@@ -23,7 +23,8 @@ use Rattle.rules.proofs.Linking.{length-run}
 use Rattle.rules.proofs.Reading.{row-is}
 use Rattle.linker.specs.declared.State.{State}
 use Rattle.merge.specs.declared.Used.{Used}
-use Rattle.linker.specs.Linker.{Buffers, lentBy, Holds}
+use Rattle.rules.specs.Lent.{Buffers, lentBy}
+use Rattle.linker.specs.Linker.{Holds}
 use Rattle.merge.specs.Merge.{lineRows, strayIn, roomBytes}
 use Rattle.linker.proofs.Extending as Extending
 use Rattle.linker.proofs.Extending.{own-functions, own-lines}

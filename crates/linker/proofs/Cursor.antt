@@ -13,7 +13,8 @@ use lib.Dec.{eqb, ltb}
 use borrow.Author.Tests.{eqb-true, eq-eqb, ne-eqb, ltb-true, lt-ltb, le-ltb, ltb-false}
 use Rattle.rules.specs.declared.Table.the-variants.{Relocations}
 use Rattle.rules.specs.Rows.{wholeRows, below, firstFrom, relocationSection, relocationOffset}
-use Rattle.rules.specs.Lookups.{Sound, Before, RisingPair, relocationWith, relocationsBefore, orEnd}
+use Rattle.rules.specs.Lookups.{Sound, RisingPair, relocationWith, relocationsBefore, orEnd}
+use Rattle.rules.specs.Tables.{Before}
 use Rattle.rules.proofs.Searches.{first-at, first-nothing, nothing-passes, found-passes}
 use Rattle.rules.proofs.Passed.{and-left, and-right, relocations-rise}
 

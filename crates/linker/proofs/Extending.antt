@@ -29,7 +29,8 @@ use Rattle.rules.proofs.Starts.{start-now, start-other}
 use Rattle.rules.proofs.Merging.{image-functions-more, image-lines-more, func-bytes-append, line-bytes-append, func-bytes-length, line-bytes-length}
 use Rattle.linker.specs.declared.State.{State}
 use Rattle.merge.specs.declared.Used.{Used}
-use Rattle.linker.specs.Linker.{startNumber, Buffers, buffers, lentBy, Valid, Grown, Holds}
+use Rattle.rules.specs.Lent.{Buffers, buffers, lentBy}
+use Rattle.linker.specs.Linker.{startNumber, Valid, Grown, Holds}
 use Rattle.merge.specs.Merge.{slotBytes, funcRows, lineRows, funcBytes, lineBytes}
 
 -- ---- a row's parts of tables 6, 7 and 8

@@ -10,7 +10,8 @@ use Rattle.rules.specs.Entries.{LinkResult, linkEntry}
 use Rattle.rules.specs.Demand3.{PathKept}
 use Rattle.rules.proofs.Rounds.{Bytes}
 use Rattle.rules.proofs.Demand3.{demand-3}
-use Rattle.linker.specs.Linker.{Buffers, lentBy, Outcomes}
+use Rattle.rules.specs.Lent.{Buffers, lentBy}
+use Rattle.linker.specs.Linker.{Outcomes}
 
 -- the answer and the outputs, as `link` promises them
 abbrev pub said : Answer → Buffers → LinkResult

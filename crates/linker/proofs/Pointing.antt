@@ -16,7 +16,8 @@ use Rattle.rules.specs.Rows.{Offered, mostImageSlots}
 use Rattle.rules.proofs.Splices.{splice-length, splice-within, splice-rest}
 use Rattle.rules.proofs.Writing.{length-bytes4, bytes-kept, source-kept, displacement-fits, calling-stored, referring-stored}
 use Rattle.linker.specs.declared.State.{State}
-use Rattle.linker.specs.Linker.{Buffers, buffers, Valid, Holds, pointedTo}
+use Rattle.rules.specs.Lent.{Buffers, buffers}
+use Rattle.linker.specs.Linker.{Valid, Holds, pointedTo}
 
 abbrev pub pointing : Bool → ℕ → ℕ → Insn → Insn
 pointing false start here i = calling i start here

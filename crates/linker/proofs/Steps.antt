@@ -13,8 +13,9 @@ use lib.Dec.{eqb}
 use borrow.Author.Tests.{eq-eqb, ne-eqb}
 use lib.ListN.{length, getD, set, length-set}
 use lib.Seq.{getD-set-same, getD-set-other}
-use Rattle.rules.specs.declared.Answer.{Answer}
-use Rattle.rules.specs.declared.Answer.the-variants.{Done}
+use Rattle.rules.specs.declared.Refusal as told
+use Rattle.rules.specs.declared.Judgement.{Judgement}
+use Rattle.rules.specs.declared.Judgement.the-variants.{Passes, Refused}
 use Rattle.rules.specs.declared.Table.the-variants.{Functions}
 use Rattle.rules.specs.Object.{Insn, Object, Meaning, copied, call, reference, refused, meaning, calling, referring}
 use Rattle.rules.specs.Bytes.{little}
@@ -22,8 +23,8 @@ use Rattle.rules.specs.Link as Link
 use Rattle.rules.specs.Link.{Refusal, refusal, Outcome, linked, refuses, unfinished, andThen, startOf, extended, rewritten, unless, atSlot, visit, append}
 use Rattle.rules.specs.Tables.{objectOf}
 use Rattle.rules.specs.Records.{admits}
-use Rattle.rules.specs.Answers.{Reply, reply, replyOf}
-use Rattle.rules.specs.Rows.{wholeRows, Offered, functionSlots, tablesOf, mostImageSlots}
+use Rattle.rules.specs.Answers.{Reply, reply, refusedReply, refusalIn}
+use Rattle.rules.specs.Rows.{mostRows, wholeRows, Offered, functionSlots, summed, tablesOf, mostImageSlots}
 use Rattle.rules.specs.Lookups.{LinkChecked}
 use Rattle.rules.specs.Entries.{refusalReply, Outputs, roomIn}
 use Rattle.rules.proofs.Passed.{good-function, few-rows}
@@ -32,7 +33,8 @@ use Rattle.rules.proofs.Lookups.{names-rows}
 use Rattle.rules.proofs.Unfolds.{append-unfolds}
 use Rattle.linker.specs.declared.State.{State}
 use Rattle.linker.specs.declared.Step.{Step}
-use Rattle.linker.specs.Linker.{startNumber, Buffers, buffers, lentBy, tally, unplaced, Valid, Grown, Holds, Agrees, adding, visiting, placing, Asks, Gives, Adds, Added, Placed, Visits, Visited, pointedTo}
+use Rattle.rules.specs.Lent.{Buffers, buffers, lentBy}
+use Rattle.linker.specs.Linker.{startNumber, tally, unplaced, Valid, Grown, Holds, Passed, Agrees, adding, visiting, placing, Asks, Gives, Adds, Added, Placed, Visits, Visited, pointedTo}
 use Rattle.linker.proofs.Pointing.{pointing, point-valid, point-holds, point-length}
 use Rattle.linker.proofs.Extending.{object-slots, Room, stateMore, buffersMore, more-valid, more-holds, more-lengths}
 
@@ -97,6 +99,13 @@ pub in-object : (o : Offered) (row : ℕ) → row < wholeRows Functions (o .func
 unfolding objectOf
 in-object o row l = rw (rows-are little o) l
 
+some-not-none : {A : Type 0} {a : A} {X : Type 0} → some a ≡ none → X
+some-not-none e = let z : _≡_ {A = ℕ} 0 1 = cc in absurd (omega arith)
+
+-- what is refused has not passed
+pub told-refused : {j : Judgement} {why : told.Refusal} → j ≡ Refused why → refusalIn j ≡ none → ⊥
+told-refused e z = some-not-none (sym (ap refusalIn e) ∙ z)
+
 -- ---- adding
 module _ {o : Offered} {st : State} {b : Buffers} {row : ℕ} (pre : Adds o st b row) where
   has-slot : 1 ≤ functionSlots (o .functions) row
@@ -121,32 +130,31 @@ module _ {o : Offered} {st : State} {b : Buffers} {row : ℕ} (pre : Adds o st b
       ∙ ap (λ x. unless x (visiting o (lentBy b) root row (st .used .slots) (functionSlots (o .functions) row) 0 (extended (objectOf (tablesOf little o)) row s))) e
 
   -- refused: nothing is written
-  pub add-refused : (a : Answer) (why : Refusal) → replyOf a ≡ refusalReply why → why .number ≢ 0
+  pub add-refused : (a : told.Refusal) (why : Refusal) → refusedReply a ≡ refusalReply why
       → ((root : ℕ) (s : Link.State) → Holds o root st b s → admits (tablesOf little o) (roomIn (lentBy b)) root row s ≡ some why)
-      → Added o st b row (record { answer = a; state = st }) b
-  add-refused a why e n refusing =
-      let bad : replyOf a .number ≢ 0 = λ z. n (sym (ap (λ r. r .number) e) ∙ z) in
-      record {
-        gives = record {
-          valid = λ z. absurd (bad z);
-          grown = λ z. absurd (bad z);
-          lengths = refl;
-          agrees = λ root s h. subst (Agrees o root (record { answer = a; state = st }) b) (sym (adding-by root s h (some why) (refusing root s h))) (e, n);
-        };
-        start = λ z. absurd (bad z);
-      }
+      → Added o st b row (record { judged = Refused a; state = st }) b
+  add-refused a why e refusing = record {
+    gives = record {
+      valid = λ z. some-not-none z;
+      grown = λ z. some-not-none z;
+      lengths = refl;
+      agrees = λ root s h. subst (Agrees o root (record { judged = Refused a; state = st }) b) (sym (adding-by root s h (some why) (refusing root s h))) (ap some e);
+    };
+    start = λ z. some-not-none z;
+  }
 
   -- room and no stray: extended, then visited
   module _ (room : Room o row (st .used) b)
       (fine : (root : ℕ) (s : Link.State) → Holds o root st b s → admits (tablesOf little o) (roomIn (lentBy b)) root row s ≡ none) where
-    pub add-visits : Visits o (stateMore o row st) (buffersMore o row (st .used) b) row (st .used .slots)
-    add-visits = record {
+    pub add-visits : (first : ℕ) → first ≡ summed (functionSlots (o .functions)) 0 row → Visits o (stateMore o row st) (buffersMore o row (st .used) b) row (st .used .slots) first
+    add-visits first begins = record {
       asks = record {
         checked = pre .asks .checked;
         valid = more-valid (pre .asks .checked) row (pre .asks .row-in) has-slot st b (pre .asks .valid) room;
         row-in = pre .asks .row-in;
       };
       fits = omega arith;
+      begins = begins;
     }
 
     pub add-falls : unplaced (stateMore o row st .starts) < unplaced (st .starts)
@@ -181,15 +189,12 @@ module _ {o : Offered} {st : State} {b : Buffers} {row : ℕ} (pre : Adds o st b
         lens = more-lengths (pre .asks .checked) row (pre .asks .row-in) (st .used) b room
 
 -- ---- placing
-done-step : State → Step
-done-step st = record { answer = Done 0 0 0; state = st }
-
 module _ {o : Offered} {st : State} {b : Buffers} {callee : ℕ} (pre : Asks o st b callee) where
-  pub callee-in : callee < 64
+  pub callee-in : callee < mostRows Functions
   callee-in = omega (arith, few-rows Functions (o .functions) (pre .checked .tables .functions), pre .row-in)
 
   -- with a start already
-  pub place-there : getD (st .starts) callee 0 ≢ 0 → Placed o st b callee (record { answer = Done 0 0 0; state = st }) b
+  pub place-there : getD (st .starts) callee 0 ≢ 0 → Placed o st b callee (record { judged = Passes; state = st }) b
   place-there n = record {
     gives = record {
       valid = λ z. pre .valid;
@@ -201,7 +206,7 @@ module _ {o : Offered} {st : State} {b : Buffers} {callee : ℕ} (pre : Asks o s
   }
     where
       go : (root : ℕ) (s : Link.State) → Holds o root st b s → (p : Option ℕ) → startOf callee (s .placed) ≡ p
-          → Agrees o root (record { answer = Done 0 0 0; state = st }) b (placing o (lentBy b) root p callee s)
+          → Agrees o root (record { judged = Passes; state = st }) b (placing o (lentBy b) root p callee s)
       go root s h none e = absurd (n (h .starts callee (pre .row-in) ∙ ap startNumber e))
       go root s h (some start) e = (refl, h)
 
@@ -257,7 +262,7 @@ visit-over : (o : Offered) (lent : Outputs) (root row start slots slot : ℕ) (s
 unfolding visit
 visit-over o lent root row start slots slot s l = let e : slots - slot ≡ 0 = omega arith in rw e
 
-module _ {o : Offered} {st₀ : State} {b₀ : Buffers} {row start : ℕ} (pre : Visits o st₀ b₀ row start) where
+module _ {o : Offered} {st₀ : State} {b₀ : Buffers} {row start first : ℕ} (pre : Visits o st₀ b₀ row start first) where
   slots : ℕ
   slots = functionSlots (o .functions) row
 
@@ -274,14 +279,14 @@ module _ {o : Offered} {st₀ : State} {b₀ : Buffers} {row start : ℕ} (pre :
     pub visit-falls : unplaced (now .starts) ≤ unplaced (st₀ .starts)
     visit-falls = grown-unplaced (pre .asks .valid) (inv .valid) (inv .grown)
 
-    pub visit-done : functionSlots (o .functions) row ≤ slot → Visited o st₀ b₀ row start (record { answer = Done 0 0 0; state = now }) b
+    pub visit-done : functionSlots (o .functions) row ≤ slot → Visited o st₀ b₀ row start (record { judged = Passes; state = now }) b
     visit-done l = record {
       valid = λ z. inv .valid;
       grown = λ z. inv .grown;
       lengths = inv .lengths;
       agrees = λ root s₀ h.
           let left = inv .left root s₀ h in
-          subst (Agrees o root (record { answer = Done 0 0 0; state = now }) b)
+          subst (Agrees o root (record { judged = Passes; state = now }) b)
           (sym (left .same ∙ visit-over o (lentBy b₀) root row start (functionSlots (o .functions) row) slot (left .s) l)) (refl, left .holds);
     }
 
@@ -307,16 +312,14 @@ module _ {o : Offered} {st₀ : State} {b₀ : Buffers} {row start : ℕ} (pre :
         left = λ root s₀ h. record { s = inv .left root s₀ h .s; holds = inv .left root s₀ h .holds; same = turned copied e root s₀ h };
       }
 
-      pub visit-out : (a : Answer) (n : ℕ) → meaning (objectOf (tablesOf little o)) row slot ≡ refused n → replyOf a ≡ reply n row slot 0 → n ≢ 0
-          → Visited o st₀ b₀ row start (record { answer = a; state = now }) b
-      visit-out a n e is nz =
-          let bad : replyOf a .number ≢ 0 = λ z. nz (sym (ap (λ r. r .number) is) ∙ z) in
-          record {
-            valid = λ z. absurd (bad z);
-            grown = λ z. absurd (bad z);
-            lengths = inv .lengths;
-            agrees = λ root s₀ h. subst (Agrees o root (record { answer = a; state = now }) b) (sym (turned (refused n) e root s₀ h)) (is, nz);
-          }
+      pub visit-out : (a : told.Refusal) (n : ℕ) → meaning (objectOf (tablesOf little o)) row slot ≡ refused n → refusedReply a ≡ reply n row slot 0
+          → Visited o st₀ b₀ row start (record { judged = Refused a; state = now }) b
+      visit-out a n e is = record {
+        valid = λ z. some-not-none z;
+        grown = λ z. some-not-none z;
+        lengths = inv .lengths;
+        agrees = λ root s₀ h. subst (Agrees o root (record { judged = Refused a; state = now }) b) (sym (turned (refused n) e root s₀ h)) (ap some is);
+      }
 
       -- a callee, called or referred to
       module _ (reference? : Bool) (callee : ℕ) (means : meaning (objectOf (tablesOf little o)) row slot ≡ cond reference? (reference callee) (call callee))
@@ -343,7 +346,7 @@ module _ {o : Offered} {st₀ : State} {b₀ : Buffers} {row start : ℕ} (pre :
           agreed : (root : ℕ) (s : Link.State) → Holds o root now b s → Agrees o root r b′ (placing o (lentBy b₀) root (startOf callee (s .placed)) callee s)
           agreed root s h = subst (λ lent. Agrees o root r b′ (placing o lent root (startOf callee (s .placed)) callee s)) (inv .lengths) (placed .gives .agrees root s h)
 
-          pub visit-refused : replyOf (r .answer) .number ≢ 0 → Visited o st₀ b₀ row start r b′
+          pub visit-refused : (Passed r → ⊥) → Visited o st₀ b₀ row start r b′
           visit-refused bad = record {
             valid = λ z. absurd (bad z);
             grown = λ z. absurd (bad z);
@@ -354,11 +357,11 @@ module _ {o : Offered} {st₀ : State} {b₀ : Buffers} {row start : ℕ} (pre :
           }
             where
               go : (root : ℕ) (out : Outcome) (next : Link.State → Outcome) → Agrees o root r b′ out → Agrees o root r b′ (andThen out next)
-              go root (linked s′) next (e, h) = absurd (bad (ap (λ x. x .number) e))
+              go root (linked s′) next (e, h) = absurd (bad e)
               go root (refuses why) next a = a
               go root unfinished next a = a
 
-          module _ (done : replyOf (r .answer) .number ≡ 0) where
+          module _ (done : Passed r) where
             -- the start that the array has now
             to : ℕ
             to = getD (r .state .starts) callee 0
@@ -397,7 +400,7 @@ module _ {o : Offered} {st₀ : State} {b₀ : Buffers} {row start : ℕ} (pre :
                   holds = point-holds (placed .gives .valid done) reference? (start + slot) (getD (r .state .starts) callee 0) still-in to-low h′;
                   same = q ∙ ap (λ n. visiting o (lentBy b₀) root row start (functionSlots (o .functions) row - (slot + 1)) (slot + 1) (rewritten (start + slot) (pointing reference? n (start + slot)) s′)) (sym t);
                 }
-            after-left root s₀ h s h₁ (refuses why) e (is, nz) q = absurd (nz (sym (ap (λ x. x .number) is) ∙ done))
+            after-left root s₀ h s h₁ (refuses why) e is q = some-not-none (sym is ∙ done)
             after-left root s₀ h s h₁ unfinished e a q = absurd a
 
             pub visit-pointed : Inv o st₀ b₀ row start (functionSlots (o .functions) row) (r .state)

@@ -11,18 +11,19 @@ use native.Mathlib.Nat.{eq-or-lt-of-le}
 use borrow.Author.Tests.{not-true, not-false}
 use lib.Dec.{eqb, leb, ltb}
 use lib.ListN.{length, getD, set}
-use Rattle.rules.specs.declared.Answer.{Answer}
-use Rattle.rules.specs.declared.Answer.the-variants.{Done, NoRoom, LineOutside}
+use Rattle.rules.specs.declared.Refusal as told
+use Rattle.rules.specs.declared.Cause.the-variants.{NoRoom, LineOutside}
+use Rattle.rules.specs.declared.Judgement.the-variants as judgement
 use Rattle.rules.specs.declared.Found.{Found}
 use Rattle.rules.specs.declared.Found.the-variants.{At, Nothing}
-use Rattle.rules.specs.declared.Table.the-variants.{Functions, Relocations}
+use Rattle.rules.specs.declared.Table.the-variants.{Functions, Relocations, LineInfo}
 use Rattle.rules.specs.Object.{Meaning, copied, call, reference, refused, meaning}
 use Rattle.rules.specs.Bytes.{little}
 use Rattle.rules.specs.Link.{refusal}
 use Rattle.rules.specs.Tables.{LineRecord, objectOf}
 use Rattle.rules.specs.Records.{firstSlot, stray}
-use Rattle.rules.specs.Answers.{replyOf}
-use Rattle.rules.specs.Rows.{rowSize, wholeRows, below, summed, Offered, linkOffer, tablesOf, lineInfoRow, functionLineInfo, functionSlots, functionSection, functionOffset, relocationSection, relocationOffset}
+use Rattle.rules.specs.Answers.{reply, numberOf, refusedReply}
+use Rattle.rules.specs.Rows.{rowSize, mostRows, mostAddress, mostImageSlots, mostFunctionSlots, wholeRows, below, summed, Offered, tablesOf, lineInfoRow, functionLineInfo, functionSlots, functionSection, functionOffset, relocationSection, relocationOffset}
 use Rattle.rules.specs.Lookups.{foundOf, relocationWith, relocationsBefore, LinkChecked}
 use Rattle.rules.proofs.Linking.{length-run}
 use Rattle.rules.proofs.Passed.{whole, few-rows, good-function}
@@ -32,11 +33,13 @@ use Rattle.merge.proofs.Rooms.{sums}
 use Rattle.merge.proofs.Checked.{checked-parts, lined}
 use Rattle.resolve.specs.Means.{Means}
 use Rattle.resolve.specs.Resolves.{Resolves}
+use Rattle.resolve.specs.declared.Meaning as judged
 use Rattle.resolve.specs.declared.Meaning.the-variants.{Copied, Points, Refused}
-use Rattle.resolve.proofs.Laws.{meaning-alike, checked-alike, points-inside}
+use Rattle.resolve.proofs.Laws.{onlyCode, meaning-alike, checked-alike, points-inside}
 use Rattle.linker.specs.declared.State.{State}
 use Rattle.linker.specs.declared.Step.{Step}
-use Rattle.linker.specs.Linker.{Buffers, buffers, lentBy, unplaced, Asks, Adds, Added, Placed, Visits, Visited, pointedTo}
+use Rattle.rules.specs.Lent.{Buffers, buffers, lentBy, partsOffer}
+use Rattle.linker.specs.Linker.{unplaced, Asks, Adds, Added, Passed, Placed, Visits, Visited, pointedTo}
 use Rattle.linker.proofs.Extending.{stateMore, buffersMore, usedMore}
 use Rattle.linker.proofs.Admitting.{room-of, no-room, strays, admitted}
 use Rattle.linker.proofs.Cursor.{Behind, behind-on, behind-first, behind-more, at-end, at-row, at-later}
@@ -46,11 +49,11 @@ use Rattle.linker.proofs.Steps.{Inv, add-refused, add-visits, add-falls
 pub row-inside : {o : Offered} (checked : LinkChecked o) {row : ℕ} → row < wholeRows Functions (o .functions) → rowSize Functions * row + rowSize Functions ≤ length (o .functions)
 row-inside {o} checked l = omega (arith, whole Functions (o .functions) (checked .tables .functions))
 
-pub row-small : {o : Offered} (checked : LinkChecked o) {row : ℕ} → row < wholeRows Functions (o .functions) → row < 64
+pub row-small : {o : Offered} (checked : LinkChecked o) {row : ℕ} → row < wholeRows Functions (o .functions) → row < mostRows Functions
 row-small {o} checked l = omega (arith, l, few-rows Functions (o .functions) (checked .tables .functions))
 
 pub row-sums : {o : Offered} (checked : LinkChecked o) {row : ℕ} → row < wholeRows Functions (o .functions) → Sums (o .functions) row
-row-sums {o} checked {row} l = sums (o .functions) (o .instructions) (o .funcInfo) (o .lineInfo) row (checked-parts o row checked l)
+row-sums {o} checked {row} l = sums o row (checked-parts o row checked l)
 
 -- ---- numbers
 pub lt-of : {a b : ℕ} → a ≤ b → (a ≡ b → ⊥) → a < b
@@ -65,8 +68,8 @@ turn-of e l = omega arith
 pub over-of : {slot slots n : ℕ} → slots ≡ n → slots ≤ slot → n ≤ slot
 over-of e l = omega arith
 
-pub at-is : {offset base n slot at place : ℕ} → offset ≡ n → base ≡ offset → at ≡ slot → place ≡ base + 8 * at → place ≡ n + 8 * slot
-at-is e₁ e₂ e₃ e₄ = omega arith
+pub at-is : {offset n slot at place : ℕ} → offset ≡ n → at ≡ slot → place ≡ offset + 8 * at → place ≡ n + 8 * slot
+at-is e₁ e₂ e₃ = omega arith
 
 stray-below : (slots origin from k : ℕ) (ls : List LineRecord) → stray slots origin from ls ≡ some k → k < from + length ls
 stray-below slots origin from k [] e = let z : _≡_ {A = ℕ} 0 1 = cc in absurd (omega arith)
@@ -78,10 +81,10 @@ stray-below slots origin from k (l ∷ ls) e = go (leb origin (l .slot) && ltb (
 
 -- ---- link_function
 module _ {o : Offered} {st : State} {b : Buffers} {row : ℕ} (pre : Adds o st b row) where
-  parts : Parts (o .functions) (o .instructions) (o .funcInfo) (o .lineInfo) row
+  parts : Parts o row
   parts = checked-parts o row (pre .asks .checked) (pre .asks .row-in)
 
-  pub stray-small : (k : ℕ) → strayIn (o .functions) (o .lineInfo) row ≡ some k → k < 65536
+  pub stray-small : (k : ℕ) → strayIn (o .functions) (o .lineInfo) row ≡ some k → k < mostRows LineInfo
   stray-small k e =
       omega (
         arith,
@@ -92,21 +95,47 @@ module _ {o : Offered} {st : State} {b : Buffers} {row : ℕ} (pre : Adds o st b
       )
 
   pub add-lined : (part : Used) → PartBegins (o .functions) row part → Lined (o .functions) (o .lineInfo) row (part .lines)
-  add-lined part begins = lined (o .functions) (o .instructions) (o .funcInfo) (o .lineInfo) row part parts begins
+  add-lined part begins = lined o row part parts begins
 
   pub out-of-room : roomBytes (o .functions) (length (b .image)) (length (b .funcs)) (length (b .lines)) (st .used) row ≡ false
-      → Added o st b row (record { answer = NoRoom row; state = st }) b
-  out-of-room e = add-refused pre (NoRoom row) (refusal 11 row 0) refl (λ z. omega arith) (λ root s h. no-room (pre .asks .checked) row (pre .asks .row-in) h e)
+      → (r : told.Refusal) → refusedReply r ≡ reply (numberOf NoRoom) row 0 0 → Added o st b row (record { judged = judgement.Refused r; state = st }) b
+  out-of-room e r is = add-refused pre r (refusal 11 row 0) is (λ root s h. no-room (pre .asks .checked) row (pre .asks .row-in) h e)
 
   module _ (room : roomBytes (o .functions) (length (b .image)) (length (b .funcs)) (length (b .lines)) (st .used) row ≡ true) where
-    pub line-strays : (k : ℕ) → strayIn (o .functions) (o .lineInfo) row ≡ some k → Added o st b row (record { answer = LineOutside row k; state = st }) b
-    line-strays k e = add-refused pre (LineOutside row k) (refusal 12 row k) refl (λ z. omega arith) (λ root s h. strays (pre .asks .checked) row (pre .asks .row-in) h k room e)
+    -- the function has a slot, so its start is below the limit
+    pub start-fits : st .used .slots < mostImageSlots
+    start-fits =
+        omega (
+          arith,
+          room-of (pre .asks .checked) row (pre .asks .row-in) (st .used) b room .most-slots,
+          good-function (o .functions) (pre .asks .checked .tables .functions) row (pre .asks .row-in) .slots-low,
+        )
+
+    pub line-strays : (k : ℕ) → strayIn (o .functions) (o .lineInfo) row ≡ some k
+        → (r : told.Refusal) → refusedReply r ≡ reply (numberOf LineOutside) row k 0 → Added o st b row (record { judged = judgement.Refused r; state = st }) b
+    line-strays k e r is = add-refused pre r (refusal 12 row k) is (λ root s h. strays (pre .asks .checked) row (pre .asks .row-in) h k room e)
 
     module _ (none-strays : strayIn (o .functions) (o .lineInfo) row ≡ none) where
-      pub add-extends : Extends (o .functions) (o .instructions) (o .funcInfo) (o .lineInfo) (b .image) (b .funcs) (b .lines) (st .used) row
-      add-extends = record { parts = parts; room = room; no-stray = none-strays }
+      abbrev partly : Offered
+      partly = partsOffer (o .functions) (o .instructions) (o .funcInfo) (o .lineInfo)
 
-      module _ {i f l : List ℕ} {more : Used} (x : Extended (o .functions) (o .instructions) (o .funcInfo) (o .lineInfo) (b .image) (b .funcs) (b .lines) i f l (st .used) row more) where
+      pub add-extends : {part : Used} → PartBegins (o .functions) row part → Extends (partsOffer (o .functions) (o .instructions) (o .funcInfo) (o .lineInfo)) b (st .used) row part
+      add-extends begins = record {
+        parts = record {
+          is-row = parts .is-row;
+          slots-inside = parts .slots-inside;
+          funcs-inside = parts .funcs-inside;
+          lines-inside = parts .lines-inside;
+          few-slots = parts .few-slots;
+          few-funcs = parts .few-funcs;
+          few-lines = parts .few-lines;
+        };
+        begins = begins;
+        room = room;
+        no-stray = none-strays;
+      }
+
+      module _ {i f l : List ℕ} {more : Used} (x : Extended (partsOffer (o .functions) (o .instructions) (o .funcInfo) (o .lineInfo)) b (buffers i f l) (st .used) row more) where
         next : State
         next = record { starts = set (st .starts) row (st .used .slots); used = more }
 
@@ -116,11 +145,12 @@ module _ {o : Offered} {st : State} {b : Buffers} {row : ℕ} (pre : Adds o st b
         buffers-are : buffersMore o row (st .used) b ≡ buffers i f l
         buffers-are = λ j. record { image = sym (x .image-is) j; funcs = sym (x .funcs-is) j; lines = sym (x .lines-is) j }
 
-        pub next-visits : Visits o (record { starts = set (st .starts) row (st .used .slots); used = more }) (buffers i f l) row (st .used .slots)
-        next-visits =
-            subst (λ y. Visits o y (buffers i f l) row (st .used .slots)) state-is
-            (subst (λ y. Visits o (stateMore o row st) y row (st .used .slots)) buffers-are
-            (add-visits pre (room-of (pre .asks .checked) row (pre .asks .row-in) (st .used) b room) (λ root s h. admitted (pre .asks .checked) row (pre .asks .row-in) h room none-strays)))
+        pub next-visits : {first : ℕ} → first ≡ summed (functionSlots (o .functions)) 0 row
+            → Visits o (record { starts = set (st .starts) row (st .used .slots); used = more }) (buffers i f l) row (st .used .slots) first
+        next-visits {first} begins =
+            subst (λ y. Visits o y (buffers i f l) row (st .used .slots) first) state-is
+            (subst (λ y. Visits o (stateMore o row st) y row (st .used .slots) first) buffers-are
+            (add-visits pre (room-of (pre .asks .checked) row (pre .asks .row-in) (st .used) b room) (λ root s h. admitted (pre .asks .checked) row (pre .asks .row-in) h room none-strays) first begins))
 
         pub next-falls : unplaced (set (st .starts) row (st .used .slots)) < unplaced (st .starts)
         next-falls = add-falls pre (room-of (pre .asks .checked) row (pre .asks .row-in) (st .used) b room) (λ root s h. admitted (pre .asks .checked) row (pre .asks .row-in) h room none-strays)
@@ -132,102 +162,111 @@ module _ {o : Offered} {st : State} {b : Buffers} {row : ℕ} (pre : Adds o st b
             (subst (λ y. Visited o y (buffers i f l) row (st .used .slots) r b′) (sym state-is) v))
 
 -- ---- relocate
-module _ {c s f r i fi li : List ℕ} {st : State} {b : Buffers} {row start : ℕ} (pre : Visits (linkOffer c s f r i fi li) st b row start) where
+module _ {o : Offered} {st : State} {b : Buffers} {row start first : ℕ} (pre : Visits o st b row start first) where
   abbrev Held : State → Buffers → ℕ → ℕ → Type 0
   Held now b′ slot cur =
-      Inv (linkOffer c s f r i fi li) st b row start (functionSlots f row) now b′ slot × ((cur ≤ wholeRows Relocations r) × Behind r (functionSection f row) (functionOffset f row + 8 * slot) cur)
+      Inv o st b row start (functionSlots (o .functions) row) now b′ slot × ((cur ≤ wholeRows Relocations (o .relocations)) × Behind (o .relocations) (functionSection (o .functions) row) (functionOffset (o .functions) row + 8 * slot) cur)
 
-  pub begins : (cur : ℕ) → cur ≤ wholeRows Relocations r → Behind r (functionSection f row) (functionOffset f row) cur → Held st b 0 cur
-  begins cur l behind = (visit-begins pre, (l, behind-on r (functionSection f row) (functionOffset f row) (functionOffset f row + 8 * 0) cur (omega arith) behind))
+  pub begins : (cur : ℕ) → cur ≤ wholeRows Relocations (o .relocations) → Behind (o .relocations) (functionSection (o .functions) row) (functionOffset (o .functions) row) cur → Held st b 0 cur
+  begins cur l behind = (visit-begins pre, (l, behind-on (o .relocations) (functionSection (o .functions) row) (functionOffset (o .functions) row) (functionOffset (o .functions) row + 8 * 0) cur (omega arith) behind))
 
-  pub begins-at : (home offset cur : ℕ) → home ≡ functionSection f row → offset ≡ functionOffset f row → cur ≡ relocationsBefore r home offset → cur ≤ wholeRows Relocations r → Held st b 0 cur
+  pub begins-at : (home offset cur : ℕ) → home ≡ functionSection (o .functions) row → offset ≡ functionOffset (o .functions) row → cur ≡ relocationsBefore (o .relocations) home offset → cur ≤ wholeRows Relocations (o .relocations) → Held st b 0 cur
   begins-at home offset cur h q e l =
-      begins cur l (subst (λ n. Behind r (functionSection f row) (functionOffset f row) n) (sym (e ∙ ap (λ x. relocationsBefore r x offset) h ∙ ap (relocationsBefore r (functionSection f row)) q)) (behind-first r (functionSection f row) (functionOffset f row)))
+      begins cur l (subst (λ n. Behind (o .relocations) (functionSection (o .functions) row) (functionOffset (o .functions) row) n) (sym (e ∙ ap (λ x. relocationsBefore (o .relocations) x offset) h ∙ ap (relocationsBefore (o .relocations) (functionSection (o .functions) row)) q)) (behind-first (o .relocations) (functionSection (o .functions) row) (functionOffset (o .functions) row)))
 
-  pub behind-next : (slot cur : ℕ) → Behind r (functionSection f row) (functionOffset f row + 8 * slot) cur → Behind r (functionSection f row) (functionOffset f row + 8 * (slot + 1)) cur
-  behind-next slot cur behind = behind-on r (functionSection f row) (functionOffset f row + 8 * slot) (functionOffset f row + 8 * (slot + 1)) cur (omega arith) behind
+  pub behind-next : (slot cur : ℕ) → Behind (o .relocations) (functionSection (o .functions) row) (functionOffset (o .functions) row + 8 * slot) cur → Behind (o .relocations) (functionSection (o .functions) row) (functionOffset (o .functions) row + 8 * (slot + 1)) cur
+  behind-next slot cur behind = behind-on (o .relocations) (functionSection (o .functions) row) (functionOffset (o .functions) row + 8 * slot) (functionOffset (o .functions) row + 8 * (slot + 1)) cur (omega arith) behind
 
-  module _ {home at place : ℕ} (cur : ℕ) (is-home : home ≡ functionSection f row) (is-place : at ≡ place) (behind : Behind r (functionSection f row) place cur) where
-    belows : {x : Bool} → x ≡ below (relocationSection r cur) (relocationOffset r cur) home at → x ≡ below (relocationSection r cur) (relocationOffset r cur) (functionSection f row) place
-    belows e = e ∙ ap (λ h. below (relocationSection r cur) (relocationOffset r cur) h at) is-home ∙ ap (below (relocationSection r cur) (relocationOffset r cur) (functionSection f row)) is-place
+  module _ {home at place : ℕ} (cur : ℕ) (is-home : home ≡ functionSection (o .functions) row) (is-place : at ≡ place) (behind : Behind (o .relocations) (functionSection (o .functions) row) place cur) where
+    belows : {x : Bool} → x ≡ below (relocationSection (o .relocations) cur) (relocationOffset (o .relocations) cur) home at → x ≡ below (relocationSection (o .relocations) cur) (relocationOffset (o .relocations) cur) (functionSection (o .functions) row) place
+    belows e = e ∙ ap (λ h. below (relocationSection (o .relocations) cur) (relocationOffset (o .relocations) cur) h at) is-home ∙ ap (below (relocationSection (o .relocations) cur) (relocationOffset (o .relocations) cur) (functionSection (o .functions) row)) is-place
 
-    heres : {x : Bool} → x ≡ (eqb (relocationSection r cur) home && eqb (relocationOffset r cur) at) → x ≡ (eqb (relocationSection r cur) (functionSection f row) && eqb (relocationOffset r cur) place)
-    heres e = e ∙ ap (λ h. eqb (relocationSection r cur) h && eqb (relocationOffset r cur) at) is-home ∙ ap (λ n. eqb (relocationSection r cur) (functionSection f row) && eqb (relocationOffset r cur) n) is-place
+    heres : {x : Bool} → x ≡ (eqb (relocationSection (o .relocations) cur) home && eqb (relocationOffset (o .relocations) cur) at) → x ≡ (eqb (relocationSection (o .relocations) cur) (functionSection (o .functions) row) && eqb (relocationOffset (o .relocations) cur) place)
+    heres e = e ∙ ap (λ h. eqb (relocationSection (o .relocations) cur) h && eqb (relocationOffset (o .relocations) cur) at) is-home ∙ ap (λ n. eqb (relocationSection (o .relocations) cur) (functionSection (o .functions) row) && eqb (relocationOffset (o .relocations) cur) n) is-place
 
-    pub goes-on : {x : Bool} → x ≡ below (relocationSection r cur) (relocationOffset r cur) home at → x ≡ true → Behind r (functionSection f row) place (cur + 1)
-    goes-on e t = behind-more r (functionSection f row) place cur behind (sym (belows e) ∙ t)
+    pub goes-on : {x : Bool} → x ≡ below (relocationSection (o .relocations) cur) (relocationOffset (o .relocations) cur) home at → x ≡ true → Behind (o .relocations) (functionSection (o .functions) row) place (cur + 1)
+    goes-on e t = behind-more (o .relocations) (functionSection (o .functions) row) place cur behind (sym (belows e) ∙ t)
 
-    pub found-row′ : cur < wholeRows Relocations r → {x : Bool} → x ≡ (eqb (relocationSection r cur) home && eqb (relocationOffset r cur) at) → x ≡ true
-        → At cur ≡ foundOf (relocationWith r (functionSection f row) place)
-    found-row′ l e t = sym (ap foundOf (at-row r (functionSection f row) place cur behind l (sym (heres e) ∙ t)))
+    pub found-row′ : cur < wholeRows Relocations (o .relocations) → {x : Bool} → x ≡ (eqb (relocationSection (o .relocations) cur) home && eqb (relocationOffset (o .relocations) cur) at) → x ≡ true
+        → At cur ≡ foundOf (relocationWith (o .relocations) (functionSection (o .functions) row) place)
+    found-row′ l e t = sym (ap foundOf (at-row (o .relocations) (functionSection (o .functions) row) place cur behind l (sym (heres e) ∙ t)))
 
-    pub found-later′ : cur < wholeRows Relocations r → {x : Bool} → x ≡ (eqb (relocationSection r cur) home && eqb (relocationOffset r cur) at) → x ≡ false
-        → {y : Bool} → y ≡ below (relocationSection r cur) (relocationOffset r cur) home at → y ≡ false → Nothing ≡ foundOf (relocationWith r (functionSection f row) place)
+    pub found-later′ : cur < wholeRows Relocations (o .relocations) → {x : Bool} → x ≡ (eqb (relocationSection (o .relocations) cur) home && eqb (relocationOffset (o .relocations) cur) at) → x ≡ false
+        → {y : Bool} → y ≡ below (relocationSection (o .relocations) cur) (relocationOffset (o .relocations) cur) home at → y ≡ false → Nothing ≡ foundOf (relocationWith (o .relocations) (functionSection (o .functions) row) place)
     found-later′ l e t d u =
-        sym (ap foundOf (at-later r (functionSection f row) place cur behind (pre .asks .checked .tables .relocations) l (sym (belows d) ∙ u) (sym (heres e) ∙ t)))
+        sym (ap foundOf (at-later (o .relocations) (functionSection (o .functions) row) place cur behind (pre .asks .checked .tables .relocations) l (sym (belows d) ∙ u) (sym (heres e) ∙ t)))
 
-  module _ {now : State} {b′ : Buffers} {slot : ℕ} (inv : Inv (linkOffer c s f r i fi li) st b row start (functionSlots f row) now b′ slot) (turn : slot < functionSlots f row) where
-    pub resolves : (first : ℕ) (rel : Found) → first ≡ summed (functionSlots f) 0 row → rel ≡ foundOf (relocationWith r (functionSection f row) (functionOffset f row + 8 * slot))
-        → Resolves c s f r i row first slot rel
-    resolves first rel e q = record {
-      tables = checked-alike c s f r i fi li (pre .asks .checked .tables);
+  module _ {now : State} {b′ : Buffers} {slot : ℕ} (inv : Inv o st b row start (functionSlots (o .functions) row) now b′ slot) (turn : slot < functionSlots (o .functions) row) where
+    pub resolves : (rel : Found) → rel ≡ foundOf (relocationWith (o .relocations) (functionSection (o .functions) row) (functionOffset (o .functions) row + 8 * slot))
+        → Resolves (onlyCode o) row first slot rel
+    resolves rel q = record {
+      tables = checked-alike o (pre .asks .checked .tables);
       row-inside = pre .asks .row-in;
       slot-inside = turn;
-      first-is = e;
+      first-is = pre .begins;
       rel-is = q;
     }
 
-    same : meaning (objectOf (tablesOf little (linkOffer c s f r i fi li))) row slot ≡ meaning (objectOf (tablesOf little (linkOffer c s f r i [] []))) row slot
-    same = meaning-alike c s f r i fi li row slot
+    same : meaning (objectOf (tablesOf little o)) row slot ≡ meaning (objectOf (tablesOf little (onlyCode o))) row slot
+    same = meaning-alike o row slot
 
-    pub on-copied : Means row slot Copied (meaning (objectOf (tablesOf little (linkOffer c s f r i [] []))) row slot)
-        → Inv (linkOffer c s f r i fi li) st b row start (functionSlots f row) now b′ (slot + 1)
-    on-copied m = visit-copied pre inv turn (same ∙ m)
+    -- what the judgement of a slot is, by what it came to
+    by : {m n : judged.Meaning} → m ≡ n → Means row slot m (meaning (objectOf (tablesOf little (onlyCode o))) row slot)
+        → Means row slot n (meaning (objectOf (tablesOf little (onlyCode o))) row slot)
+    by e h = subst (λ x. Means row slot x (meaning (objectOf (tablesOf little (onlyCode o))) row slot)) e h
 
-    pub on-refused : (a : Answer) → Means row slot (Refused a) (meaning (objectOf (tablesOf little (linkOffer c s f r i [] []))) row slot)
-        → Visited (linkOffer c s f r i fi li) st b row start (record { answer = a; state = now }) b′
-    on-refused a m = visit-out pre inv turn a (replyOf a .number) (same ∙ m .refusal) (m .places) (m .not-done)
+    pub on-copied : {m : judged.Meaning} → m ≡ Copied → Means row slot m (meaning (objectOf (tablesOf little (onlyCode o))) row slot)
+        → Inv o st b row start (functionSlots (o .functions) row) now b′ (slot + 1)
+    on-copied e m = visit-copied pre inv turn (same ∙ by e m)
 
-    module _ (callee : ℕ) (refers : Bool) (m : Means row slot (Points callee refers) (meaning (objectOf (tablesOf little (linkOffer c s f r i [] []))) row slot)) where
-      callee-row : callee < wholeRows Functions f
-      callee-row = points-inside c s f r i row slot callee refers m
+    pub on-refused : (a : told.Refusal) {m : judged.Meaning} → m ≡ Refused a → Means row slot m (meaning (objectOf (tablesOf little (onlyCode o))) row slot)
+        → Visited o st b row start (record { judged = judgement.Refused a; state = now }) b′
+    on-refused a e m = visit-out pre inv turn a (refusedReply a .number) (same ∙ by e m .refusal) (by e m .places)
 
-      pub asks-placed : Asks (linkOffer c s f r i fi li) now b′ callee
+    module _ (callee : ℕ) (refers : Bool) {it : judged.Meaning} (is : it ≡ Points callee refers)
+        (means : Means row slot it (meaning (objectOf (tablesOf little (onlyCode o))) row slot)) where
+      m : Means row slot (Points callee refers) (meaning (objectOf (tablesOf little (onlyCode o))) row slot)
+      m = by is means
+
+      callee-row : callee < wholeRows Functions (o .functions)
+      callee-row = points-inside (onlyCode o) row slot callee refers m
+
+      pub asks-placed : Asks o now b′ callee
       asks-placed = visit-asks pre inv turn refers callee (same ∙ m) callee-row
 
-      module _ {step : Step} {b″ : Buffers} (placed : Placed (linkOffer c s f r i fi li) now b′ callee step b″) where
-        pub out-refused : replyOf (step .answer) .number ≢ 0 → Visited (linkOffer c s f r i fi li) st b row start step b″
+      module _ {step : Step} {b″ : Buffers} (placed : Placed o now b′ callee step b″) where
+        pub out-refused : (Passed step → ⊥) → Visited o st b row start step b″
         out-refused n = visit-refused pre inv turn refers callee (same ∙ m) callee-row step b″ placed n
 
-        module _ (done : replyOf (step .answer) .number ≡ 0) where
-          pub start-low : getD (step .state .starts) callee 0 < 4096
+        module _ (done : Passed step) where
+          pub start-low : getD (step .state .starts) callee 0 < mostImageSlots
           start-low = to-low pre inv turn refers callee (same ∙ m) callee-row step b″ placed done
 
           pub here-room : 8 * (start + slot) + 8 ≤ length (b″ .image)
           here-room = room-here pre inv turn refers callee (same ∙ m) callee-row step b″ placed done
 
-          pub here-low : start + slot < 4096
+          pub here-low : start + slot < mostImageSlots
           here-low = omega (arith, still-in pre inv turn refers callee (same ∙ m) callee-row step b″ placed done, placed .gives .valid done .most)
 
           pub on-pointed : {here to : ℕ} (image : List ℕ) → here ≡ start + slot → to ≡ getD (step .state .starts) callee 0 → image ≡ pointedTo refers (b″ .image) here to
-              → Inv (linkOffer c s f r i fi li) st b row start (functionSlots f row) (step .state) (buffers image (b″ .funcs) (b″ .lines)) (slot + 1)
+              → Inv o st b row start (functionSlots (o .functions) row) (step .state) (buffers image (b″ .funcs) (b″ .lines)) (slot + 1)
           on-pointed {here} {to} image p q e =
-              subst (λ x. Inv (linkOffer c s f r i fi li) st b row start (functionSlots f row) (step .state) (buffers x (b″ .funcs) (b″ .lines)) (slot + 1))
+              subst (λ x. Inv o st b row start (functionSlots (o .functions) row) (step .state) (buffers x (b″ .funcs) (b″ .lines)) (slot + 1))
               (sym (e ∙ ap (λ n. pointedTo refers (b″ .image) n to) p ∙ ap (pointedTo refers (b″ .image) (start + slot)) q))
               (visit-pointed pre inv turn refers callee (same ∙ m) callee-row step b″ placed done)
 
-  pub rows-of : (k : ℕ) → k < wholeRows Relocations r → rowSize Relocations * k + rowSize Relocations ≤ length r
-  rows-of k l = omega (arith, whole Relocations r (pre .asks .checked .tables .relocations))
+  pub rows-of : (k : ℕ) → k < wholeRows Relocations (o .relocations) → rowSize Relocations * k + rowSize Relocations ≤ length (o .relocations)
+  rows-of k l = omega (arith, whole Relocations (o .relocations) (pre .asks .checked .tables .relocations))
 
-  pub rows-few : wholeRows Relocations r ≤ 1024
-  rows-few = few-rows Relocations r (pre .asks .checked .tables .relocations)
+  pub rows-few : wholeRows Relocations (o .relocations) ≤ mostRows Relocations
+  rows-few = few-rows Relocations (o .relocations) (pre .asks .checked .tables .relocations)
 
-  pub offset-low : functionOffset f row < 281474976710656
-  offset-low = omega (arith, good-function f (pre .asks .checked .tables .functions) row (pre .asks .row-in) .offset)
+  pub offset-low : functionOffset (o .functions) row ≤ mostAddress
+  offset-low = omega (arith, good-function (o .functions) (pre .asks .checked .tables .functions) row (pre .asks .row-in) .offset)
 
-  pub slots-low : functionSlots f row ≤ 4096
-  slots-low = good-function f (pre .asks .checked .tables .functions) row (pre .asks .row-in) .slots-high
+  pub slots-low : functionSlots (o .functions) row ≤ mostFunctionSlots
+  slots-low = good-function (o .functions) (pre .asks .checked .tables .functions) row (pre .asks .row-in) .slots-high
 
   -- what the search found
-  pub found-end : (place cur : ℕ) → Behind r (functionSection f row) place cur → wholeRows Relocations r ≤ cur → Nothing ≡ foundOf (relocationWith r (functionSection f row) place)
-  found-end place cur behind l = sym (ap foundOf (at-end r (functionSection f row) place cur behind l))
+  pub found-end : (place cur : ℕ) → Behind (o .relocations) (functionSection (o .functions) row) place cur → wholeRows Relocations (o .relocations) ≤ cur → Nothing ≡ foundOf (relocationWith (o .relocations) (functionSection (o .functions) row) place)
+  found-end place cur behind l = sym (ap foundOf (at-end (o .relocations) (functionSection (o .functions) row) place cur behind l))

@@ -12,18 +12,21 @@ use native.Mathlib.Decide.{decLt}
 use lib.ListN.{length, getD, take, drop, replicate, length-replicate, length-take, take-append-drop, getD-replicate, List·getD-eq-default}
 use lib.Seq.{length-take-le, getD-take}
 use Rattle.rules.specs.declared.Answer.{Answer}
-use Rattle.rules.specs.declared.Answer.the-variants.{Done, NoRoom}
+use Rattle.rules.specs.declared.Answer.the-variants.{Done, Refused}
+use Rattle.rules.specs.declared.Cause.the-variants.{NoRoom}
+use Rattle.rules.specs.declared.Refusal as told
 use Rattle.rules.specs.declared.Table.the-variants.{Functions}
 use Rattle.rules.specs.Bytes.{little, byteAt, splice, padded, decoded, encoded}
 use Rattle.rules.specs.Link as Link
 use Rattle.rules.specs.Link.{Refusal, refusal, Outcome, linked, refuses, unfinished, run, startOf, slotsOf, rootOnly, unless, visit, link}
 use Rattle.rules.specs.Tables.{Tables, functionRecordsOf, linesOf, objectOf}
 use Rattle.rules.specs.Records.{imageFunctions, imageLines, admits, rootAdmits, linkStep}
-use Rattle.rules.specs.Answers.{Reply, reply, replyOf}
-use Rattle.rules.specs.Rows.{wholeRows, summed, Offered, functionSlots, functionFuncInfo, functionLineInfo, funcInfoRow, lineInfoRow, tablesOf, mostImageSlots, linkRefusal, orDone}
+use Rattle.rules.specs.Answers.{Reply, reply, numberOf, replyOf, refusedReply, refusalIn}
+use Rattle.rules.specs.Rows.{wholeRows, summed, Offered, functionSlots, functionFuncInfo, functionLineInfo, funcInfoRow, lineInfoRow, tablesOf, mostImageSlots, linkRefusal, mostRows}
 use Rattle.rules.specs.Lookups.{LinkChecked}
 use Rattle.rules.specs.Entries.{funcInfoBytes, lineInfoBytes, refusalReply, Outputs, roomIn, LinkResult, refusedLink, acceptedLink, byOutcome, unlessLinkRefused, linkEntry}
 use Rattle.rules.proofs.Refusing as Refusing
+use Rattle.rules.proofs.Replies as Replies
 use Rattle.rules.proofs.Splices.{splice-length, splice-front}
 use Rattle.rules.proofs.Rounds.{Bytes, encoded-decoded}
 use Rattle.rules.proofs.Linking.{length-run}
@@ -32,8 +35,9 @@ use Rattle.rules.proofs.Merging.{func-bytes-length, line-bytes-length}
 use Rattle.linker.specs.declared.State.{State}
 use Rattle.linker.specs.declared.Step.{Step}
 use Rattle.merge.specs.declared.Used.{Used}
-use Rattle.linker.specs.Linker.{startNumber, Buffers, buffers, lentBy, Valid, Holds, Agrees, adding, visiting, Asks, Gives, Visits, Visited, Starts, Outcomes, Ended, stepResult}
-use Rattle.merge.specs.Merge.{slotBytes, funcRows, lineRows, roomBytes, unused, Begins, Begun}
+use Rattle.rules.specs.Lent.{Buffers, buffers, lentBy, partsOffer}
+use Rattle.linker.specs.Linker.{startNumber, Valid, Holds, Passed, Agrees, adding, visiting, Asks, Gives, Visits, Visited, Starts, Outcomes, Ended, stepResult}
+use Rattle.merge.specs.Merge.{slotBytes, funcRows, lineRows, roomBytes, PartBegins, unused, Begins, Begun}
 use Rattle.merge.proofs.Checked.{checked-parts}
 use Rattle.linker.proofs.Extending.{slots-inside, funcs-inside, lines-inside, slots-long, slots-are, own-functions, own-lines, object-slots, rest-next, Room}
 use Rattle.linker.proofs.Admitting.{room-passes, room-fails, room-of}
@@ -44,13 +48,13 @@ Zeroed b = (b .image ≡ replicate (length (b .image)) 0) × (b .funcs ≡ repli
 
 -- no function has a start
 abbrev pub noStarts : List ℕ
-noStarts = replicate 64 0
+noStarts = replicate (mostRows Functions) 0
 
 zero-start : (row : ℕ) → getD noStarts row 0 ≡ 0
-zero-start row = go (decLt row 64)
+zero-start row = go (decLt row (mostRows Functions))
   where
-    go : Dec (row < 64) → getD noStarts row 0 ≡ 0
-    go (yes l) = getD-replicate 64 row 0 0 l
+    go : Dec (row < mostRows Functions) → getD noStarts row 0 ≡ 0
+    go (yes l) = getD-replicate (mostRows Functions) row 0 0 l
     go (no n) = List·getD-eq-default noStarts 0 {n = row} (omega arith)
 
 abbrev pub rowUsed : Offered → ℕ → Used
@@ -111,8 +115,8 @@ module _ {o : Offered} (checked : LinkChecked o) (root : ℕ) (root-in : root < 
         lines-rest = rest-next (b .lines) (lineInfoBytes little (lineRows (o .functions) (o .lineInfo) root)) 0 _ (omega (arith, lines-count)) lines-fit (all-zero (b .lines) (zeroed .2));
       }
 
-  pub first-visits : Visits o (firstState o root) (firstBuffers o root b) root 0
-  first-visits = record { asks = record { checked = checked; valid = first-valid; row-in = root-in }; fits = omega arith }
+  pub first-visits : (first : ℕ) → first ≡ summed (functionSlots (o .functions)) 0 root → Visits o (firstState o root) (firstBuffers o root b) root 0 first
+  first-visits first begins = record { asks = record { checked = checked; valid = first-valid; row-in = root-in }; fits = omega arith; begins = begins }
 
   first-functions : imageFunctions (tablesOf little o) root [] ≡ funcRows (o .functions) (o .funcInfo) root
   unfolding imageFunctions
@@ -169,6 +173,12 @@ module _ {o : Offered} {root : ℕ} {st : State} {b : Buffers} {s : Link.State} 
   lines-hold = front-rest (b .lines) (16 * st .used .lines) _ (valid .lines) (h .lines) (valid .lines-rest)
 
 -- ---- the entry's answer
+some-not-none : {A : Type 0} {a : A} {X : Type 0} → some a ≡ none → X
+some-not-none e = let z : _≡_ {A = ℕ} 0 1 = cc in absurd (omega arith)
+
+some-same : {x y : Reply} → some x ≡ some y → x ≡ y
+some-same e = cc
+
 module _ {o : Offered} {root : ℕ} {b : Buffers} (pre : Starts o root b) where
   zeroes : Zeroed b
   zeroes = (pre .image, pre .funcs, pre .lines)
@@ -181,18 +191,19 @@ module _ {o : Offered} {root : ℕ} {b : Buffers} (pre : Starts o root b) where
       ∙ ap (λ n. unless x (visiting o (lentBy b) root root 0 n 0 (rootOnly (objectOf (tablesOf little o)) root))) (object-slots (pre .checked) root (pre .root-in))
 
   -- 11: the root has no room
-  pub root-refused : roomBytes (o .functions) (length (b .image)) (length (b .funcs)) (length (b .lines)) unused root ≡ false → Ended o root b b (NoRoom root)
-  root-refused e = record {
+  pub root-refused : roomBytes (o .functions) (length (b .image)) (length (b .funcs)) (length (b .lines)) unused root ≡ false
+      → (r : told.Refusal) → refusedReply r ≡ reply (numberOf NoRoom) root 0 0 → Ended o root b b (Refused r)
+  root-refused e r is = record {
     lengths = refl;
-    done = λ z. absurd (omega arith);
-    refused = λ n. ap (byOutcome little (tablesOf little o) root (lentBy b)) (step-by (some (refusal 11 root 0)) (room-fails (pre .checked) root (pre .root-in) (lentBy b) unused e));
+    done = λ z. absurd (Replies.refuses r z);
+    refused = λ n. ap (byOutcome little (tablesOf little o) root (lentBy b)) (step-by (some (refusal 11 root 0)) (room-fails (pre .checked) root (pre .root-in) (lentBy b) unused e)) ∙ ap (refusedLink (lentBy b)) (sym is);
   }
 
   module _ (enough : roomBytes (o .functions) (length (b .image)) (length (b .funcs)) (length (b .lines)) unused root ≡ true) where
     pub root-room : Room o root unused b
     root-room = room-of (pre .checked) root (pre .root-in) unused b enough
 
-    pub root-visits : Visits o (firstState o root) (firstBuffers o root b) root 0
+    pub root-visits : (first : ℕ) → first ≡ summed (functionSlots (o .functions)) 0 root → Visits o (firstState o root) (firstBuffers o root b) root 0 first
     root-visits = first-visits (pre .checked) root (pre .root-in) b zeroes root-room
 
     lens : lentBy (firstBuffers o root b) ≡ lentBy b
@@ -208,27 +219,30 @@ module _ {o : Offered} {root : ℕ} {b : Buffers} (pre : Starts o root b) where
       pub all-lengths : lentBy b′ ≡ lentBy b
       all-lengths = v .lengths ∙ lens
 
-      pub link-refused : replyOf (r .answer) .number ≢ 0 → Ended o root b b′ (r .answer)
-      link-refused bad = record { lengths = all-lengths; done = λ z. absurd (bad z); refused = λ n. go (linkStep (tablesOf little o) (roomIn (lentBy b)) root) visited }
+      pub link-refused : (why : told.Refusal) → refusalIn (r .judged) ≡ some (refusedReply why) → Ended o root b b′ (Refused why)
+      link-refused why bad = record { lengths = all-lengths; done = λ z. absurd (Replies.refuses why z); refused = λ n. go (linkStep (tablesOf little o) (roomIn (lentBy b)) root) visited }
         where
-          go : (out : Outcome) → Agrees o root r b′ out → byOutcome little (tablesOf little o) root (lentBy b) out ≡ refusedLink (lentBy b) (replyOf (r .answer))
-          go (linked s) (e, h) = absurd (bad (ap (λ x. x .number) e))
-          go (refuses why) (e, n) = ap (refusedLink (lentBy b)) (sym e)
+          go : (out : Outcome) → Agrees o root r b′ out → byOutcome little (tablesOf little o) root (lentBy b) out ≡ refusedLink (lentBy b) (refusedReply why)
+          go (linked s) (e, h) = some-not-none (sym bad ∙ e)
+          go (refuses it) e = let same : refusalReply it ≡ refusedReply why = some-same (sym e ∙ bad) in ap (refusedLink (lentBy b)) same
           go unfinished a = absurd a
 
-      module _ (ok : replyOf (r .answer) .number ≡ 0) (are : Bytes (b′ .image)) where
-        pub link-done : Ended o root b b′ (Done (r .state .used .slots) (r .state .used .funcs) (r .state .used .lines))
+      module _ (ok : Passed r) (are : Bytes (b′ .image)) where
+        abbrev ends : Answer
+        ends = Done (record { 0 = r .state .used .slots; 1 = r .state .used .funcs; 2 = r .state .used .lines })
+
+        pub link-done : Ended o root b b′ (Done (record { 0 = r .state .used .slots; 1 = r .state .used .funcs; 2 = r .state .used .lines }))
         link-done = record { lengths = all-lengths; done = λ z. go (linkStep (tablesOf little o) (roomIn (lentBy b)) root) visited; refused = λ n. absurd (n refl) }
           where
             go : (out : Outcome) → Agrees o root r b′ out
-                → Outcomes b′ (Done (r .state .used .slots) (r .state .used .funcs) (r .state .used .lines)) (byOutcome little (tablesOf little o) root (lentBy b) out)
+                → Outcomes b′ ends (byOutcome little (tablesOf little o) root (lentBy b) out)
             go (linked s) (e, h) = record {
               reply = rw (h .slots, h .funcs-count, h .lines-count);
               image = image-holds (v .valid ok) h are ∙ ap (λ n. padded n (encoded little (s .image))) (ap (λ x. x .image) all-lengths);
               funcs = funcs-hold (v .valid ok) h are ∙ ap (λ n. padded n (funcInfoBytes little (imageFunctions (tablesOf little o) root (s .placed)))) (ap (λ x. x .funcInfo) all-lengths);
               lines = lines-hold (v .valid ok) h are ∙ ap (λ n. padded n (lineInfoBytes little (imageLines (tablesOf little o) root (s .placed)))) (ap (λ x. x .lineInfo) all-lengths);
             }
-            go (refuses why) (e, n) = absurd (n (sym (ap (λ x. x .number) e) ∙ ok))
+            go (refuses why) e = some-not-none (sym e ∙ ok)
             go unfinished a = absurd a
 
 -- ---- with the check before it and the wiping after
@@ -261,28 +275,45 @@ step-done o root b b′ a e f = subst (Outcomes b′ a) (sym (ap (unlessLinkRefu
 
 -- ---- the root as `begin` leaves it
 module _ {o : Offered} {root : ℕ} {b : Buffers} (pre : Starts o root b) (enough : roomBytes (o .functions) (length (b .image)) (length (b .funcs)) (length (b .lines)) unused root ≡ true) where
-  pub begins : Begins (o .functions) (o .instructions) (o .funcInfo) (o .lineInfo) (b .image) (b .funcs) (b .lines) root
-  begins = record { parts = checked-parts o root (pre .checked) (pre .root-in); room = enough }
+  pub begins : {part : Used} → PartBegins (o .functions) root part → Begins (partsOffer (o .functions) (o .instructions) (o .funcInfo) (o .lineInfo)) b root part
+  begins part-begins =
+      let parts = checked-parts o root (pre .checked) (pre .root-in) in record {
+        parts = record {
+          is-row = parts .is-row;
+          slots-inside = parts .slots-inside;
+          funcs-inside = parts .funcs-inside;
+          lines-inside = parts .lines-inside;
+          few-slots = parts .few-slots;
+          few-funcs = parts .few-funcs;
+          few-lines = parts .few-lines;
+        };
+        begins = part-begins;
+        room = enough;
+      }
 
-  module _ {i f l : List ℕ} {u : Used} (x : Begun (o .functions) (o .instructions) (o .funcInfo) (o .lineInfo) (b .image) (b .funcs) (b .lines) i f l root u) where
+  module _ {i f l : List ℕ} {u : Used} (x : Begun (partsOffer (o .functions) (o .instructions) (o .funcInfo) (o .lineInfo)) b (buffers i f l) root u) where
     state-is : firstState o root ≡ record { starts = noStarts; used = u }
     state-is = λ j. record { starts = noStarts; used = record { slots = sym (x .counts .slots-are) j; funcs = sym (x .counts .funcs-are) j; lines = sym (x .counts .lines-are) j } }
 
     buffers-are : firstBuffers o root b ≡ buffers i f l
     buffers-are = λ j. record { image = sym (x .image-is) j; funcs = sym (x .funcs-is) j; lines = sym (x .lines-is) j }
 
-    pub begun-visits : Visits o (record { starts = noStarts; used = u }) (buffers i f l) root 0
-    begun-visits = subst (λ y. Visits o y (buffers i f l) root 0) state-is (subst (λ y. Visits o (firstState o root) y root 0) buffers-are (root-visits pre enough))
+    pub begun-visits : {first : ℕ} → first ≡ summed (functionSlots (o .functions)) 0 root → Visits o (record { starts = noStarts; used = u }) (buffers i f l) root 0 first
+    begun-visits {first} e =
+        subst (λ y. Visits o y (buffers i f l) root 0 first) state-is (subst (λ y. Visits o (firstState o root) y root 0 first) buffers-are (root-visits pre enough first e))
 
     module _ {r : Step} {b′ : Buffers} (v : Visited o (record { starts = noStarts; used = u }) (buffers i f l) root 0 r b′) where
       back : Visited o (firstState o root) (firstBuffers o root b) root 0 r b′
       back = subst (λ y. Visited o (firstState o root) y root 0 r b′) (sym buffers-are) (subst (λ y. Visited o y (buffers i f l) root 0 r b′) (sym state-is) v)
 
-      pub begun-refused : replyOf (r .answer) .number ≢ 0 → Ended o root b b′ (r .answer)
-      begun-refused n = link-refused pre enough r b′ back n
+      pub begun-refused : (why : told.Refusal) → refusalIn (r .judged) ≡ some (refusedReply why) → Ended o root b b′ (Refused why)
+      begun-refused why e = link-refused pre enough r b′ back why e
 
-      pub begun-done : replyOf (r .answer) .number ≡ 0 → Bytes (b′ .image) → Ended o root b b′ (Done (r .state .used .slots) (r .state .used .funcs) (r .state .used .lines))
+      pub begun-done : Passed r → Bytes (b′ .image) → Ended o root b b′ (Done (record { 0 = r .state .used .slots; 1 = r .state .used .funcs; 2 = r .state .used .lines }))
       begun-done ok are = link-done pre enough r b′ back ok are
+
+pub answer-refused : {a : Answer} {why : told.Refusal} → a ≡ Refused why → replyOf a .number ≡ 0 → ⊥
+answer-refused {why = why} e z = Replies.refuses why (sym (ap (λ x. replyOf x .number) e) ∙ z)
 
 -- ---- the entry, by what its callees promise
 again : (n : ℕ) (d : List ℕ) → d ≡ replicate n 0 → length d ≡ n
@@ -291,17 +322,11 @@ again n d e = ap length e ∙ length-replicate n 0
 zero-again : (n : ℕ) (d : List ℕ) → d ≡ replicate n 0 → d ≡ replicate (length d) 0
 zero-again n d e = e ∙ ap (λ m. replicate m 0) (sym (again n d e))
 
-module _ (o : Offered) (root : ℕ) (b : Buffers) {i f l : List ℕ} (zi : i ≡ replicate (length (b .image)) 0) (zf : f ≡ replicate (length (b .funcs)) 0) (zl : l ≡ replicate (length (b .lines)) 0)
-    (a : Answer) (said : replyOf a ≡ orDone (linkRefusal o root)) where
-  pub entry-refused : (replyOf a .number ≡ 0 → ⊥) → Outcomes (buffers i f l) a (linkEntry little o root (lentBy b))
-  entry-refused n =
-      check-refused o root b (buffers i f l) zi zf zl a
-      (Refusing.link-refused o root (λ z. n (ap (λ r. r .number) said ∙ z)) ∙ ap some (sym said))
+module _ (o : Offered) (root : ℕ) (b : Buffers) {i f l : List ℕ} (zi : i ≡ replicate (length (b .image)) 0) (zf : f ≡ replicate (length (b .funcs)) 0) (zl : l ≡ replicate (length (b .lines)) 0) where
+  pub entry-refused : (why : told.Refusal) → some (refusedReply why) ≡ linkRefusal o root → Outcomes (buffers i f l) (Refused why) (linkEntry little o root (lentBy b))
+  entry-refused why said = check-refused o root b (buffers i f l) zi zf zl (Refused why) (sym said)
 
-  module _ (ok : replyOf a .number ≡ 0) where
-    passed : linkRefusal o root ≡ none
-    passed = Refusing.link-passed o root (sym (ap (λ r. r .number) said) ∙ ok)
-
+  module _ (passed : linkRefusal o root ≡ none) where
     pub entry-starts : Starts o root (buffers i f l)
     entry-starts = record {
       checked = Refusing.link-checked o root passed;

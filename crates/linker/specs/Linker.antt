@@ -10,15 +10,17 @@ use Prim.Native.Nat.{ℕ, zero, suc, _+_, _-_, _*_, _≤_, _<_}
 use lib.Dec.{eqb}
 use lib.ListN.{length, getD, take, drop, replicate}
 use Rattle.rules.specs.declared.Answer.{Answer}
-use Rattle.rules.specs.declared.Table.the-variants.{Functions}
+use Rattle.rules.specs.declared.Judgement.{Judgement}
+use Rattle.rules.specs.declared.Table.the-variants.{Functions, Instructions, FuncInfo, LineInfo}
 use Rattle.rules.specs.Object.{Object, displacement}
 use Rattle.rules.specs.Bytes.{little, decoded, immediateStored, sourceStored}
 use Rattle.rules.specs.Link as Link
 use Rattle.rules.specs.Link.{Outcome, linked, refuses, unfinished, startOf, visit, append}
 use Rattle.rules.specs.Tables.{Tables, objectOf}
 use Rattle.rules.specs.Records.{imageFunctions, imageLines, admits, linkStep}
-use Rattle.rules.specs.Answers.{reply, replyOf}
-use Rattle.rules.specs.Rows.{mostRows, wholeRows, Offered, functionSlots, tablesOf, mostImageSlots, mostImageFunctions, mostImageLines}
+use Rattle.rules.specs.Answers.{replyOf, refusalIn}
+use Rattle.rules.specs.Lent.{Buffers, lentBy}
+use Rattle.rules.specs.Rows.{rowSize, mostRows, wholeRows, Offered, functionSlots, summed, tablesOf, mostImageSlots, mostImageFunctions, mostImageLines}
 use Rattle.rules.specs.Lookups.{LinkChecked}
 use Rattle.rules.specs.Entries.{funcInfoBytes, lineInfoBytes, refusalReply, Outputs, roomIn, LinkResult, refusedLink, byOutcome}
 use Rattle.linker.specs.declared.State.{State}
@@ -28,18 +30,6 @@ use Rattle.linker.specs.declared.Step.{Step}
 abbrev pub startNumber : Option ℕ → ℕ
 startNumber none = 0
 startNumber (some start) = start
-
--- the three outputs
-pub record Buffers : Type 0 where
-  pub image : List ℕ
-  pub funcs : List ℕ
-  pub lines : List ℕ
-
-abbrev pub buffers : List ℕ → List ℕ → List ℕ → Buffers
-buffers image funcs lines = record { image = image; funcs = funcs; lines = lines }
-
-abbrev pub lentBy : Buffers → Outputs
-lentBy b = record { image = length (b .image); funcInfo = length (b .funcs); lineInfo = length (b .lines) }
 
 -- how many rows have no start yet
 abbrev pub tally : Bool → ℕ → ℕ
@@ -55,15 +45,15 @@ pub record Valid (st : State) (b : Buffers) : Type 0 where
   pub long : length (st .starts) ≡ mostRows Functions
   pub some-slot : 1 ≤ st .used .slots
   pub most : st .used .slots ≤ mostImageSlots
-  pub slots : 8 * st .used .slots ≤ length (b .image)
-  pub funcs : 8 * st .used .funcs ≤ length (b .funcs)
-  pub lines : 16 * st .used .lines ≤ length (b .lines)
+  pub slots : rowSize Instructions * st .used .slots ≤ length (b .image)
+  pub funcs : rowSize FuncInfo * st .used .funcs ≤ length (b .funcs)
+  pub lines : rowSize LineInfo * st .used .lines ≤ length (b .lines)
   pub most-funcs : st .used .funcs ≤ mostImageFunctions
   pub most-lines : st .used .lines ≤ mostImageLines
   pub starts : (row : ℕ) → getD (st .starts) row 0 < mostImageSlots
-  pub image-rest : drop (8 * st .used .slots) (b .image) ≡ replicate (length (b .image) - 8 * st .used .slots) 0
-  pub funcs-rest : drop (8 * st .used .funcs) (b .funcs) ≡ replicate (length (b .funcs) - 8 * st .used .funcs) 0
-  pub lines-rest : drop (16 * st .used .lines) (b .lines) ≡ replicate (length (b .lines) - 16 * st .used .lines) 0
+  pub image-rest : drop (rowSize Instructions * st .used .slots) (b .image) ≡ replicate (length (b .image) - rowSize Instructions * st .used .slots) 0
+  pub funcs-rest : drop (rowSize FuncInfo * st .used .funcs) (b .funcs) ≡ replicate (length (b .funcs) - rowSize FuncInfo * st .used .funcs) 0
+  pub lines-rest : drop (rowSize LineInfo * st .used .lines) (b .lines) ≡ replicate (length (b .lines) - rowSize LineInfo * st .used .lines) 0
 
 -- what has a start keeps it
 pub record Grown (before after : State) : Type 0 where
@@ -73,18 +63,22 @@ pub record Grown (before after : State) : Type 0 where
 -- the buffers hold this state of the link step
 pub record Holds (o : Offered) (root : ℕ) (st : State) (b : Buffers) (s : Link.State) : Type 0 where
   pub slots : st .used .slots ≡ length (s .image)
-  pub image : decoded little (take (8 * st .used .slots) (b .image)) ≡ s .image
+  pub image : decoded little (take (rowSize Instructions * st .used .slots) (b .image)) ≡ s .image
   pub funcs-count : st .used .funcs ≡ length (imageFunctions (tablesOf little o) root (s .placed))
-  pub funcs : take (8 * st .used .funcs) (b .funcs) ≡ funcInfoBytes little (imageFunctions (tablesOf little o) root (s .placed))
+  pub funcs : take (rowSize FuncInfo * st .used .funcs) (b .funcs) ≡ funcInfoBytes little (imageFunctions (tablesOf little o) root (s .placed))
   pub lines-count : st .used .lines ≡ length (imageLines (tablesOf little o) root (s .placed))
-  pub lines : take (16 * st .used .lines) (b .lines) ≡ lineInfoBytes little (imageLines (tablesOf little o) root (s .placed))
+  pub lines : take (rowSize LineInfo * st .used .lines) (b .lines) ≡ lineInfoBytes little (imageLines (tablesOf little o) root (s .placed))
   pub starts : (row : ℕ) → row < wholeRows Functions (o .functions) → getD (st .starts) row 0 ≡ startNumber (startOf row (s .placed))
   pub positive : (row start : ℕ) → startOf row (s .placed) ≡ some start → 1 ≤ start
 
--- an answer, with the state and the buffers behind it, is this outcome
+-- nothing is refused
+abbrev pub Passed : Step → Type 0
+Passed r = refusalIn (r .judged) ≡ none
+
+-- what is judged, with the state and the buffers behind it, is this outcome
 abbrev pub Agrees : Offered → ℕ → Step → Buffers → Outcome → Type 0
-Agrees o root r b (linked s) = (replyOf (r .answer) ≡ reply 0 0 0 0) × Holds o root (r .state) b s
-Agrees o root r b (refuses why) = (replyOf (r .answer) ≡ refusalReply why) × (why .number ≢ 0)
+Agrees o root r b (linked s) = Passed r × Holds o root (r .state) b s
+Agrees o root r b (refuses why) = refusalIn (r .judged) ≡ some (refusalReply why)
 Agrees o root r b unfinished = ⊥
 
 -- the link step's two functions, over the tables' bytes: fuel for every row
@@ -107,8 +101,8 @@ pub record Asks (o : Offered) (st : State) (b : Buffers) (row : ℕ) : Type 0 wh
 
 -- and what it gives, whatever the root
 pub record Gives (o : Offered) (st : State) (b : Buffers) (r : Step) (b′ : Buffers) (outcome : ℕ → Link.State → Outcome) : Type 0 where
-  pub valid : replyOf (r .answer) .number ≡ 0 → Valid (r .state) b′
-  pub grown : replyOf (r .answer) .number ≡ 0 → Grown st (r .state)
+  pub valid : Passed r → Valid (r .state) b′
+  pub grown : Passed r → Grown st (r .state)
   pub lengths : lentBy b′ ≡ lentBy b
   pub agrees : (root : ℕ) (s : Link.State) → Holds o root st b s → Agrees o root r b′ (outcome root s)
 
@@ -118,15 +112,16 @@ pub record Adds (o : Offered) (st : State) (b : Buffers) (row : ℕ) : Type 0 wh
 
 pub record Added (o : Offered) (st : State) (b : Buffers) (row : ℕ) (r : Step) (b′ : Buffers) : Type 0 where
   pub gives : Gives o st b r b′ (λ root. adding o (lentBy b) root row)
-  pub start : replyOf (r .answer) .number ≡ 0 → getD (r .state .starts) row 0 ≡ st .used .slots
+  pub start : Passed r → getD (r .state .starts) row 0 ≡ st .used .slots
 
 pub record Placed (o : Offered) (st : State) (b : Buffers) (callee : ℕ) (r : Step) (b′ : Buffers) : Type 0 where
   pub gives : Gives o st b r b′ (λ root s. placing o (lentBy b) root (startOf callee (s .placed)) callee s)
-  pub start : replyOf (r .answer) .number ≡ 0 → getD (st .starts) callee 0 ≡ 0 → getD (r .state .starts) callee 0 ≡ st .used .slots
+  pub start : Passed r → getD (st .starts) callee 0 ≡ 0 → getD (r .state .starts) callee 0 ≡ st .used .slots
 
-pub record Visits (o : Offered) (st : State) (b : Buffers) (row start : ℕ) : Type 0 where
+pub record Visits (o : Offered) (st : State) (b : Buffers) (row start first : ℕ) : Type 0 where
   pub asks : Asks o st b row
   pub fits : start + functionSlots (o .functions) row ≤ st .used .slots
+  pub begins : first ≡ summed (functionSlots (o .functions)) 0 row
 
 abbrev pub Visited : Offered → State → Buffers → ℕ → ℕ → Step → Buffers → Type 0
 Visited o st b row start r b′ = Gives o st b r b′ (λ root. visiting o (lentBy b) root row start (functionSlots (o .functions) row) 0)

@@ -1,6 +1,6 @@
 // The link step (the crate's FunctionLinker): the root first, then each callee where it is first met, depth first.
+use answers::refusal;
 use insn::displacement;
-use insn::offset_at;
 use insn::place;
 use insn::set_immediate;
 use insn::set_source;
@@ -13,45 +13,49 @@ use merge::part_of;
 use merge::stray_line;
 use resolve::Meaning;
 use resolve::resolve;
-use rows::fields::RELOCATION_SIZE;
 use rows::fields::function_offset;
 use rows::fields::function_section;
 use rows::fields::function_slots;
-use rows::fields::relocation_offset;
-use rows::fields::relocation_section;
+use rows::find::is_relocation;
+use rows::find::is_relocation_before;
 use rows::find::relocations_before;
 use rules::Answer;
-use rules::ByteOffset;
+use rules::Cause;
 use rules::Found;
+use rules::Judgement;
+use rules::Places;
 use rules::Slot;
+use rules::limits::MOST_FUNCTIONS;
+use rules::limits::RELOCATION_SIZE;
 use tables::checks::check_link;
 use wire::wipe;
 ghost use mathlib.Core.Path.{_≡_};
-ghost use mathlib.Core.Bool.{_&&_};
 ghost use Prim.Native.Nat.{_+_, _*_, _≤_, _<_};
-ghost use lib.Dec.{eqb};
 ghost use lib.ListN.{length};
-ghost use Rattle.rules.specs.declared.Table.the-variants.{Relocations};
 ghost use Rattle.rules.specs.Bytes.{little, slotSize};
-ghost use Rattle.rules.specs.Rows.{rowSize, below, linkOffer, relocationSection, relocationOffset};
+ghost use Rattle.rules.specs.Lent.{was, offered, lent, outputs, lentOutputs, lentBy};
+ghost use Rattle.rules.specs.Rows.{mostImageSlots};
 ghost use Rattle.rules.specs.Entries.{linkEntry};
-ghost use Rattle.linker.specs.Linker.{buffers, lentBy, Adds, Added, Asks, Placed, Visits, Visited, pointedTo, Starts, Ended, Outcomes};
+ghost use Rattle.linker.specs.Linker.{Adds, Added, Asks, Placed, Visits, Visited, pointedTo, Starts, Ended, Outcomes};
 
 // Where each function of table 3 starts in the image, 0 if it is not placed: the root has a slot, so no callee starts at 0.
 pub struct State {
-    pub starts: [u16; 64],
+    pub starts: [u16; MOST_FUNCTIONS],
     pub used: Used,
 }
 
 pub struct Step {
-    pub answer: Answer,
+    pub judged: Judgement,
     pub state: State,
 }
 
 // A call, or a reference, to the function that starts there.
 fn point(image: &mut [u8], here: Slot, start: Slot, reference: bool)
-    requires { ⌜ (slotSize * here .0 + slotSize ≤ length (now image)) × ((start .0 < 65536) × (here .0 < 65536)) ⌝ }
-    ensures { λ _. ⌜ now (image .exit) ≡ pointedTo reference (now (image .entry)) (here .0) (start .0) ⌝ }
+    requires { ⌜
+        (slotSize * here .0 + slotSize ≤ length (now image))
+        × ((start .0 < mostImageSlots) × (here .0 < mostImageSlots))
+        ⌝ }
+    ensures { λ _. ⌜ now (image .exit) ≡ pointedTo reference (was image) (here .0) (start .0) ⌝ }
 {
     let to = displacement(start, here);
     if reference {
@@ -60,21 +64,6 @@ fn point(image: &mut [u8], here: Slot, start: Slot, reference: bool)
         return;
     }
     set_immediate(image, here, to);
-}
-
-fn is_here(relocations: &[u8], k: usize, home: u32, at: ByteOffset) -> bool
-    requires { ⌜ rowSize Relocations * k + rowSize Relocations ≤ length (now relocations) ⌝ }
-    ensures { λ r. ⌜ r ≡ (eqb (relocationSection (now (relocations .entry)) k) home && eqb (relocationOffset (now (relocations .entry)) k) (at .0)) ⌝ }
-{
-    (relocation_section(relocations, k) == home) & (relocation_offset(relocations, k) == at.0)
-}
-
-fn is_before(relocations: &[u8], k: usize, home: u32, at: ByteOffset) -> bool
-    requires { ⌜ rowSize Relocations * k + rowSize Relocations ≤ length (now relocations) ⌝ }
-    ensures { λ r. ⌜ r ≡ below (relocationSection (now (relocations .entry)) k) (relocationOffset (now (relocations .entry)) k) home (at .0) ⌝ }
-{
-    let section = relocation_section(relocations, k);
-    (section < home) | ((section == home) & (relocation_offset(relocations, k) < at.0))
 }
 
 // Appends a function that is not placed, places it, and visits its slots.
@@ -92,8 +81,20 @@ fn link_function(
     st: State,
     row: usize,
 ) -> Step
-    requires { ⌜ Adds (linkOffer (now code) (now symbols) (now functions) (now relocations) (now instructions) (now «func_info») (now «line_info»)) st (buffers (now image) (now «image_func_info») (now «image_line_info»)) row ⌝ }
-    ensures { λ r. ⌜ Added (linkOffer (now (code .entry)) (now (symbols .entry)) (now (functions .entry)) (now (relocations .entry)) (now (instructions .entry)) (now («func_info» .entry)) (now («line_info» .entry))) st (buffers (now (image .entry)) (now («image_func_info» .entry)) (now («image_line_info» .entry))) row r (buffers (now (image .exit)) (now («image_func_info» .exit)) (now («image_line_info» .exit))) ⌝ }
+    requires { ⌜ Adds
+        (offered code symbols functions relocations instructions «func_info» «line_info»)
+        st
+        (outputs image «image_func_info» «image_line_info»)
+        row
+        ⌝ }
+    ensures { λ r. ⌜ Added
+        (lent code symbols functions relocations instructions «func_info» «line_info»)
+        st
+        (lentOutputs image «image_func_info» «image_line_info»)
+        row
+        r
+        (outputs (image .exit) («image_func_info» .exit) («image_line_info» .exit))
+        ⌝ }
 {
     let used = st.used;
     if !has_room(
@@ -105,16 +106,15 @@ fn link_function(
         row,
     ) {
         return Step {
-            answer: Answer::NoRoom(row as u32),
+            judged: Judgement::Refused(refusal(Cause::NoRoom, row as u32, 0)),
             state: st,
         };
     }
     let part = part_of(functions, row);
-    let first = part.lines;
-    let found = stray_line(functions, line_info, row, first);
+    let found = stray_line(functions, line_info, row, part.lines);
     if let Found::At(k) = found {
         return Step {
-            answer: Answer::LineOutside(row as u32, k as u32),
+            judged: Judgement::Refused(refusal(Cause::LineOutside, row as u32, k as u32)),
             state: st,
         };
     }
@@ -128,6 +128,7 @@ fn link_function(
         image_line_info,
         used,
         row,
+        part,
     );
     let mut next = st;
     next.starts[row] = used.slots as u16;
@@ -146,6 +147,7 @@ fn link_function(
         next,
         row,
         used.slots,
+        part.slots,
     )
 }
 
@@ -164,8 +166,20 @@ fn placed(
     st: State,
     callee: usize,
 ) -> Step
-    requires { ⌜ Asks (linkOffer (now code) (now symbols) (now functions) (now relocations) (now instructions) (now «func_info») (now «line_info»)) st (buffers (now image) (now «image_func_info») (now «image_line_info»)) callee ⌝ }
-    ensures { λ r. ⌜ Placed (linkOffer (now (code .entry)) (now (symbols .entry)) (now (functions .entry)) (now (relocations .entry)) (now (instructions .entry)) (now («func_info» .entry)) (now («line_info» .entry))) st (buffers (now (image .entry)) (now («image_func_info» .entry)) (now («image_line_info» .entry))) callee r (buffers (now (image .exit)) (now («image_func_info» .exit)) (now («image_line_info» .exit))) ⌝ }
+    requires { ⌜ Asks
+        (offered code symbols functions relocations instructions «func_info» «line_info»)
+        st
+        (outputs image «image_func_info» «image_line_info»)
+        callee
+        ⌝ }
+    ensures { λ r. ⌜ Placed
+        (lent code symbols functions relocations instructions «func_info» «line_info»)
+        st
+        (lentOutputs image «image_func_info» «image_line_info»)
+        callee
+        r
+        (outputs (image .exit) («image_func_info» .exit) («image_line_info» .exit))
+        ⌝ }
 {
     if st.starts[callee] == 0 {
         return link_function(
@@ -184,12 +198,12 @@ fn placed(
         );
     }
     Step {
-        answer: Answer::Done(0, 0, 0),
+        judged: Judgement::Passes,
         state: st,
     }
 }
 
-// Visits the slots of a function that starts there.
+// Visits the slots of a function that starts there; its first slot in table 6 is `first`.
 fn relocate(
     code: &[u8],
     symbols: &[u8],
@@ -204,29 +218,44 @@ fn relocate(
     st: State,
     row: usize,
     start: u32,
+    first: u32,
 ) -> Step
-    requires { ⌜ Visits (linkOffer (now code) (now symbols) (now functions) (now relocations) (now instructions) (now «func_info») (now «line_info»)) st (buffers (now image) (now «image_func_info») (now «image_line_info»)) row start ⌝ }
-    ensures { λ r. ⌜ Visited (linkOffer (now (code .entry)) (now (symbols .entry)) (now (functions .entry)) (now (relocations .entry)) (now (instructions .entry)) (now («func_info» .entry)) (now («line_info» .entry))) st (buffers (now (image .entry)) (now («image_func_info» .entry)) (now («image_line_info» .entry))) row start r (buffers (now (image .exit)) (now («image_func_info» .exit)) (now («image_line_info» .exit))) ⌝ }
+    requires { ⌜ Visits
+        (offered code symbols functions relocations instructions «func_info» «line_info»)
+        st
+        (outputs image «image_func_info» «image_line_info»)
+        row
+        start
+        first
+        ⌝ }
+    ensures { λ r. ⌜ Visited
+        (lent code symbols functions relocations instructions «func_info» «line_info»)
+        st
+        (lentOutputs image «image_func_info» «image_line_info»)
+        row
+        start
+        r
+        (outputs (image .exit) («image_func_info» .exit) («image_line_info» .exit))
+        ⌝ }
 {
-    let slots = function_slots(functions, row);
+    let own = function_slots(functions, row);
+    let slots = own.0;
     let home = function_section(functions, row);
     let offset = function_offset(functions, row);
-    let part = part_of(functions, row);
-    let first = part.slots;
     let n = relocations.len() / RELOCATION_SIZE;
     let mut cur = relocations_before(relocations, home, offset);
     let mut now = st;
     let mut slot: u32 = 0;
     while slot < slots {
-        let at = place(offset_at(offset), slot_at(slot));
+        let at = place(offset, slot_at(slot));
         let rel = loop {
             if cur == n {
                 break Found::Nothing;
             }
-            if is_here(relocations, cur, home, at) {
+            if is_relocation(relocations, cur, home, at) {
                 break Found::At(cur);
             }
-            if !is_before(relocations, cur, home, at) {
+            if !is_relocation_before(relocations, cur, home, at) {
                 break Found::Nothing;
             }
             cur += 1;
@@ -247,8 +276,11 @@ fn relocate(
                 slot += 1;
                 continue;
             }
-            Meaning::Refused(answer) => {
-                return Step { answer, state: now };
+            Meaning::Refused(why) => {
+                return Step {
+                    judged: Judgement::Refused(why),
+                    state: now,
+                };
             }
             Meaning::Points(callee, reference) => {
                 let step = placed(
@@ -265,8 +297,8 @@ fn relocate(
                     now,
                     callee,
                 );
-                let answer = step.answer;
-                let Answer::Done(_, _, _) = answer else {
+                let judged = step.judged;
+                let Judgement::Passes = judged else {
                     return step;
                 };
                 now = step.state;
@@ -281,7 +313,7 @@ fn relocate(
         }
     }
     Step {
-        answer: Answer::Done(0, 0, 0),
+        judged: Judgement::Passes,
         state: now,
     }
 }
@@ -300,8 +332,18 @@ fn link_checked(
     image_line_info: &mut [u8],
     root: u32,
 ) -> Answer
-    requires { ⌜ Starts (linkOffer (now code) (now symbols) (now functions) (now relocations) (now instructions) (now «func_info») (now «line_info»)) root (buffers (now image) (now «image_func_info») (now «image_line_info»)) ⌝ }
-    ensures { λ r. ⌜ Ended (linkOffer (now (code .entry)) (now (symbols .entry)) (now (functions .entry)) (now (relocations .entry)) (now (instructions .entry)) (now («func_info» .entry)) (now («line_info» .entry))) root (buffers (now (image .entry)) (now («image_func_info» .entry)) (now («image_line_info» .entry))) (buffers (now (image .exit)) (now («image_func_info» .exit)) (now («image_line_info» .exit))) r ⌝ }
+    requires { ⌜ Starts
+        (offered code symbols functions relocations instructions «func_info» «line_info»)
+        root
+        (outputs image «image_func_info» «image_line_info»)
+        ⌝ }
+    ensures { λ r. ⌜ Ended
+        (lent code symbols functions relocations instructions «func_info» «line_info»)
+        root
+        (lentOutputs image «image_func_info» «image_line_info»)
+        (outputs (image .exit) («image_func_info» .exit) («image_line_info» .exit))
+        r
+        ⌝ }
 {
     let row = root as usize;
     let nothing = Used {
@@ -317,8 +359,9 @@ fn link_checked(
         nothing,
         row,
     ) {
-        return Answer::NoRoom(root);
+        return Answer::Refused(refusal(Cause::NoRoom, root, 0));
     }
+    let part = part_of(functions, row);
     let used = begin(
         functions,
         instructions,
@@ -328,9 +371,10 @@ fn link_checked(
         image_func_info,
         image_line_info,
         row,
+        part,
     );
     let st = State {
-        starts: [0; 64],
+        starts: [0; MOST_FUNCTIONS],
         used,
     };
     let step = relocate(
@@ -347,13 +391,14 @@ fn link_checked(
         st,
         row,
         0,
+        part.slots,
     );
-    let answer = step.answer;
-    let Answer::Done(_, _, _) = answer else {
-        return answer;
-    };
+    let judged = step.judged;
+    if let Judgement::Refused(why) = judged {
+        return Answer::Refused(why);
+    }
     let end = step.state;
-    Answer::Done(end.used.slots, end.used.funcs, end.used.lines)
+    Answer::Done(Places(end.used.slots, end.used.funcs, end.used.lines))
 }
 
 // Links the function at the row root of table 3. A refused link leaves its three outputs all zero; an accepted one has zero after the used bytes.
@@ -370,7 +415,15 @@ pub fn link(
     image_line_info: &mut [u8],
     root: u32,
 ) -> Answer
-    ensures { λ r. ⌜ Outcomes (buffers (now (image .exit)) (now («image_func_info» .exit)) (now («image_line_info» .exit))) r (linkEntry little (linkOffer (now (code .entry)) (now (symbols .entry)) (now (functions .entry)) (now (relocations .entry)) (now (instructions .entry)) (now («func_info» .entry)) (now («line_info» .entry))) root (lentBy (buffers (now (image .entry)) (now («image_func_info» .entry)) (now («image_line_info» .entry))))) ⌝ }
+    ensures { λ r. ⌜ Outcomes
+        (outputs (image .exit) («image_func_info» .exit) («image_line_info» .exit))
+        r
+        (linkEntry
+        little
+        (lent code symbols functions relocations instructions «func_info» «line_info»)
+        root
+        (lentBy (lentOutputs image «image_func_info» «image_line_info»)))
+        ⌝ }
 {
     wipe(image);
     wipe(image_func_info);
@@ -385,9 +438,9 @@ pub fn link(
         line_info,
         root,
     );
-    let Answer::Done(_, _, _) = checked else {
-        return checked;
-    };
+    if let Judgement::Refused(why) = checked {
+        return Answer::Refused(why);
+    }
     let answer = link_checked(
         code,
         symbols,
@@ -401,7 +454,7 @@ pub fn link(
         image_line_info,
         root,
     );
-    let Answer::Done(_, _, _) = answer else {
+    let Answer::Done(_) = answer else {
         wipe(image); // what the step wrote
         wipe(image_func_info); // and its function records
         wipe(image_line_info); // and its line records

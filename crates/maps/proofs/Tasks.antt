@@ -14,16 +14,17 @@ use Rattle.rules.specs.declared.Table.the-variants.{Functions, Relocations}
 use Rattle.rules.specs.Object.{Insn}
 use Rattle.rules.specs.Link.{run}
 use Rattle.rules.specs.Bytes.{little}
-use Rattle.rules.specs.Tables.{Relocation, Tables, rowOf}
-use Rattle.rules.specs.Maps.{Task, task, Verdict, skipped, refused, applies, only, inside, judge, tasksOf, refusalBy, firstRefusal, counted, rewrite, rewriteInPlace, appliedInPlace, orElse}
-use Rattle.rules.specs.Rows.{wholeRows, tablesOf, functionRow, functionSection, functionOffset, relocationRow, relocationSection, relocationOffset}
-use Rattle.rules.specs.Lookups.{Sound, Before, RisingPair, relocationsBefore}
-use Rattle.rules.proofs.Passed.{relocations-rise}
-use Rattle.rules.proofs.Reading.{row-is}
+use Rattle.rules.specs.Tables.{Relocation, Tables, rowOf, Before}
+use Rattle.rules.specs.Maps.{Task, task, Verdict, skipped, refused, applies, only, inside, judge, tasksOf, tasks, allTasks, refusalBy, firstRefusal, counted, rewrite, orElse}
+use Rattle.rules.specs.Rows.{Offered, wholeRows, tablesOf, functionRow, functionSection, functionOffset, relocationRow, relocationSection, relocationOffset}
+use Rattle.rules.specs.Lookups.{Sound, RisingPair}
+use Rattle.rules.proofs.InPlace.{rewriteInPlace, appliedInPlace}
+use Rattle.rules.proofs.Passed.{below-before, before-below, relocations-rise}
+use Rattle.rules.proofs.Reading.{rows-are, row-is}
 use Rattle.rows.specs.Matches.{relocationIsBefore}
-use Rattle.rows.proofs.Bound.{as-before, as-below, before-bound, from-bound}
-use Rattle.judge.specs.Judged.{Lent, offer, tables, taskOf}
-use Rattle.maps.specs.Passes.{isWithin, endOf}
+use Rattle.rows.proofs.Bound.{before-bound, from-bound}
+use Rattle.judge.specs.Judged.{withInstructions, tables, taskOf}
+use Rattle.maps.specs.Passes.{isWithin, endOf, firstRow}
 
 -- ---- lists of tasks, one after another
 module _ (t : Tables) where
@@ -79,138 +80,173 @@ module _ (t : Tables) where
   }
 
 -- ---- the tasks of a function, from row k of table 4 on
-unfoldable pub tasksFrom : Lent → ℕ → ℕ → ℕ → List Task
-tasksFrom l row k n = map (task row) (only (λ r. eqb (r .home) (functionSection (l .functions) row)) (run (relocationRow (l .relocations)) k n))
+unfoldable pub tasksFrom : Offered → ℕ → ℕ → ℕ → List Task
+tasksFrom o row k n = map (task row) (only (λ r. eqb (r .home) (functionSection (o .functions) row)) (run (relocationRow (o .relocations)) k n))
 
--- the first row of table 4 at or after the function's start
-abbrev pub firstRow : Lent → ℕ → ℕ
-firstRow l row = relocationsBefore (l .relocations) (functionSection (l .functions) row) (functionOffset (l .functions) row)
+abbrev pub tasksLeft : Offered → ℕ → ℕ → List Task
+tasksLeft o row k = tasksFrom o row k (wholeRows Relocations (o .relocations) - k)
 
-end-of : (l : Lent) (row j : ℕ) → tasksFrom l row j 0 ≡ []
+end-of : (o : Offered) (row j : ℕ) → tasksFrom o row j 0 ≡ []
 unfolding tasksFrom
-end-of l row j = refl
+end-of o row j = refl
 
-module _ (l : Lent) (table6 : List ℕ) (row : ℕ) (inside-row : row < wholeRows Functions (l .functions)) where
-  row-of : rowOf (tables l table6) row ≡ functionRow (l .functions) row
-  row-of = row-is little (offer l table6) row inside-row
+module _ (o : Offered) (row : ℕ) (inside-row : row < wholeRows Functions (o .functions)) where
+  row-of : rowOf (tables o) row ≡ functionRow (o .functions) row
+  row-of = row-is little o row inside-row
 
-  pub all-of : tasksOf (tables l table6) row ≡ tasksFrom l row 0 (wholeRows Relocations (l .relocations))
+  pub all-of : tasksOf (tables o) row ≡ tasksFrom o row 0 (wholeRows Relocations (o .relocations))
   unfolding tasksFrom tablesOf
-  all-of = ap (λ f. map (task row) (only (λ r. eqb (r .home) (f .home)) (run (relocationRow (l .relocations)) 0 (wholeRows Relocations (l .relocations))))) row-of
+  all-of = ap (λ f. map (task row) (only (λ r. eqb (r .home) (f .home)) (run (relocationRow (o .relocations)) 0 (wholeRows Relocations (o .relocations))))) row-of
 
   -- a row that is judged, if at all, to be skipped
   unfoldable Idle : ℕ → Type 0
-  Idle k = relocationSection (l .relocations) k ≡ functionSection (l .functions) row → (image : List Insn) → judge (tables l table6) image (taskOf l row k) ≡ skipped
+  Idle k = relocationSection (o .relocations) k ≡ functionSection (o .functions) row → (image : List Insn) → judge (tables o) image (taskOf o row k) ≡ skipped
 
-  outside-idle : (k : ℕ) → (relocationSection (l .relocations) k ≡ functionSection (l .functions) row → inside (functionRow (l .functions) row) (relocationRow (l .relocations) k) ≡ false) → Idle k
+  outside-idle : (k : ℕ) → (relocationSection (o .relocations) k ≡ functionSection (o .functions) row → inside (functionRow (o .functions) row) (relocationRow (o .relocations) k) ≡ false) → Idle k
   unfolding judge Idle
   outside-idle k e s image = rw (row-of, e s)
 
-  one-idle : (k n : ℕ) → Idle k → Same (tables l table6) (tasksFrom l row k (suc n)) (tasksFrom l row (suc k) n)
+  one-idle : (k n : ℕ) → Idle k → Same (tables o) (tasksFrom o row k (suc n)) (tasksFrom o row (suc k) n)
   unfolding tasksFrom Idle
-  one-idle k n idle = go (eqb (relocationSection (l .relocations) k) (functionSection (l .functions) row)) refl
+  one-idle k n idle = go (eqb (relocationSection (o .relocations) k) (functionSection (o .functions) row)) refl
     where
       rest : List Relocation
-      rest = only (λ r. eqb (r .home) (functionSection (l .functions) row)) (run (relocationRow (l .relocations)) (suc k) n)
+      rest = only (λ r. eqb (r .home) (functionSection (o .functions) row)) (run (relocationRow (o .relocations)) (suc k) n)
 
-      go : (b : Bool) → eqb (relocationSection (l .relocations) k) (functionSection (l .functions) row) ≡ b
-          → Same (tables l table6) (map (task row) (cond b (relocationRow (l .relocations) k ∷ rest) rest)) (map (task row) rest)
-      go true e = skipped-same (tables l table6) (taskOf l row k) (map (task row) rest) (idle (eqb-true _ _ e))
-      go false e = same (tables l table6) refl
+      go : (b : Bool) → eqb (relocationSection (o .relocations) k) (functionSection (o .functions) row) ≡ b
+          → Same (tables o) (map (task row) (cond b (relocationRow (o .relocations) k ∷ rest) rest)) (map (task row) rest)
+      go true e = skipped-same (tables o) (taskOf o row k) (map (task row) rest) (idle (eqb-true _ _ e))
+      go false e = same (tables o) refl
 
-  idle-run : (m k n : ℕ) → ((j : ℕ) → k ≤ j → j < k + m → Idle j) → Same (tables l table6) (tasksFrom l row k (m + n)) (tasksFrom l row (k + m) n)
+  idle-run : (m k n : ℕ) → ((j : ℕ) → k ≤ j → j < k + m → Idle j) → Same (tables o) (tasksFrom o row k (m + n)) (tasksFrom o row (k + m) n)
   idle-run zero k n idle =
       let e : 0 + n ≡ n = omega arith in
       let f : k ≡ k + 0 = omega arith in
-      same (tables l table6) (ap (tasksFrom l row k) e ∙ ap (λ j. tasksFrom l row j n) f)
+      same (tables o) (ap (tasksFrom o row k) e ∙ ap (λ j. tasksFrom o row j n) f)
   idle-run (suc m) k n idle =
       let e : suc m + n ≡ suc (m + n) = omega arith in
       let f : suc k + m ≡ k + suc m = omega arith in
-      then-same (tables l table6) (same (tables l table6) (ap (tasksFrom l row k) e))
-      (then-same (tables l table6) (one-idle k (m + n) (idle k (omega arith) (omega arith)))
-      (then-same (tables l table6) (idle-run m (suc k) n (λ j a b. idle j (omega arith) (omega arith))) (same (tables l table6) (ap (λ j. tasksFrom l row j n) f))))
+      then-same (tables o) (same (tables o) (ap (tasksFrom o row k) e))
+      (then-same (tables o) (one-idle k (m + n) (idle k (omega arith) (omega arith)))
+      (then-same (tables o) (idle-run m (suc k) n (λ j a b. idle j (omega arith) (omega arith))) (same (tables o) (ap (λ j. tasksFrom o row j n) f))))
 
   -- ---- which rows are idle
-  before-idle : (k : ℕ) → relocationIsBefore (l .relocations) (functionSection (l .functions) row) (functionOffset (l .functions) row) k ≡ true → Idle k
-  before-idle k e = outside-idle k (λ s. go s (as-before _ _ _ _ e))
+  before-idle : (k : ℕ) → relocationIsBefore (o .relocations) (functionSection (o .functions) row) (functionOffset (o .functions) row) k ≡ true → Idle k
+  before-idle k e = outside-idle k (λ s. go s (below-before _ _ _ _ e))
     where
-      go : relocationSection (l .relocations) k ≡ functionSection (l .functions) row
-          → Before (relocationSection (l .relocations) k) (relocationOffset (l .relocations) k) (functionSection (l .functions) row) (functionOffset (l .functions) row)
-          → inside (functionRow (l .functions) row) (relocationRow (l .relocations) k) ≡ false
+      go : relocationSection (o .relocations) k ≡ functionSection (o .functions) row
+          → Before (relocationSection (o .relocations) k) (relocationOffset (o .relocations) k) (functionSection (o .functions) row) (functionOffset (o .functions) row)
+          → inside (functionRow (o .functions) row) (relocationRow (o .relocations) k) ≡ false
       go s (inl less) = absurd (omega arith)
       go s (inr (same, less)) =
-          ap (λ b. b && ltb (relocationOffset (l .relocations) k) (endOf (l .functions) row)) (lt-leb (functionOffset (l .functions) row) (relocationOffset (l .relocations) k) less)
+          ap (λ b. b && ltb (relocationOffset (o .relocations) k) (endOf (o .functions) row)) (lt-leb (functionOffset (o .functions) row) (relocationOffset (o .relocations) k) less)
 
   and-none : (b : Bool) → (b && false) ≡ false
   and-none true = refl
   and-none false = refl
 
-  end-idle : (k : ℕ) → (relocationSection (l .relocations) k ≡ functionSection (l .functions) row → endOf (l .functions) row ≤ relocationOffset (l .relocations) k) → Idle k
+  end-idle : (k : ℕ) → (relocationSection (o .relocations) k ≡ functionSection (o .functions) row → endOf (o .functions) row ≤ relocationOffset (o .relocations) k) → Idle k
   end-idle k e = outside-idle k past
     where
-      past : relocationSection (l .relocations) k ≡ functionSection (l .functions) row → inside (functionRow (l .functions) row) (relocationRow (l .relocations) k) ≡ false
+      past : relocationSection (o .relocations) k ≡ functionSection (o .functions) row → inside (functionRow (o .functions) row) (relocationRow (o .relocations) k) ≡ false
       past s =
-          ap (λ b. leb (functionOffset (l .functions) row) (relocationOffset (l .relocations) k) && b) (le-ltb (relocationOffset (l .relocations) k) (endOf (l .functions) row) (e s))
-          ∙ and-none (leb (functionOffset (l .functions) row) (relocationOffset (l .relocations) k))
+          ap (λ b. leb (functionOffset (o .functions) row) (relocationOffset (o .relocations) k) && b) (le-ltb (relocationOffset (o .relocations) k) (endOf (o .functions) row) (e s))
+          ∙ and-none (leb (functionOffset (o .functions) row) (relocationOffset (o .relocations) k))
 
-  module _ (sound : Sound Relocations (l .relocations)) where
+  module _ (sound : Sound Relocations (o .relocations)) where
     -- where a row is the first past the function, so are those after it
-    module _ (k : ℕ) (from : firstRow l row ≤ k) (inside-k : k < wholeRows Relocations (l .relocations))
-        (past : isWithin (l .relocations) (functionSection (l .functions) row) (endOf (l .functions) row) k ≡ false) where
-      own-end : relocationSection (l .relocations) k ≡ functionSection (l .functions) row → endOf (l .functions) row ≤ relocationOffset (l .relocations) k
+    module _ (k : ℕ) (from : firstRow (o .functions) (o .relocations) row ≤ k) (inside-k : k < wholeRows Relocations (o .relocations))
+        (past : isWithin (o .relocations) (functionSection (o .functions) row) (endOf (o .functions) row) k ≡ false) where
+      own-end : relocationSection (o .relocations) k ≡ functionSection (o .functions) row → endOf (o .functions) row ≤ relocationOffset (o .relocations) k
       own-end s =
-          ltb-false _ _ (sym (ap (λ b. b && ltb (relocationOffset (l .relocations) k) (endOf (l .functions) row)) (eq-eqb _ _ s)) ∙ past)
+          ltb-false _ _ (sym (ap (λ b. b && ltb (relocationOffset (o .relocations) k) (endOf (o .functions) row)) (eq-eqb _ _ s)) ∙ past)
 
-      not-before : relocationIsBefore (l .relocations) (functionSection (l .functions) row) (functionOffset (l .functions) row) k ≡ false
-      not-before = from-bound (l .relocations) sound (functionSection (l .functions) row) (functionOffset (l .functions) row) k from inside-k
+      not-before : relocationIsBefore (o .relocations) (functionSection (o .functions) row) (functionOffset (o .functions) row) k ≡ false
+      not-before = from-bound (o .relocations) sound (functionSection (o .functions) row) (functionOffset (o .functions) row) k from inside-k
 
-      later-end : (j : ℕ) → k < j → j < wholeRows Relocations (l .relocations) → relocationSection (l .relocations) j ≡ functionSection (l .functions) row
-          → endOf (l .functions) row ≤ relocationOffset (l .relocations) j
+      later-end : (j : ℕ) → k < j → j < wholeRows Relocations (o .relocations) → relocationSection (o .relocations) j ≡ functionSection (o .functions) row
+          → endOf (o .functions) row ≤ relocationOffset (o .relocations) j
       unfolding RisingPair
-      later-end j a b s = go (relocations-rise (l .relocations) sound k j a b)
+      later-end j a b s = go (relocations-rise (o .relocations) sound k j a b)
         where
-          go : Before (relocationSection (l .relocations) k) (relocationOffset (l .relocations) k) (relocationSection (l .relocations) j) (relocationOffset (l .relocations) j)
-              → endOf (l .functions) row ≤ relocationOffset (l .relocations) j
+          go : Before (relocationSection (o .relocations) k) (relocationOffset (o .relocations) k) (relocationSection (o .relocations) j) (relocationOffset (o .relocations) j)
+              → endOf (o .functions) row ≤ relocationOffset (o .relocations) j
           go (inl less) =
-              let e = as-below (relocationSection (l .relocations) k) (relocationOffset (l .relocations) k) (functionSection (l .functions) row) (functionOffset (l .functions) row) (inl (omega arith)) in
+              let e = before-below (relocationSection (o .relocations) k) (relocationOffset (o .relocations) k) (functionSection (o .functions) row) (functionOffset (o .functions) row) (inl (omega arith)) in
               let f = not-before in
               let z : _≡_ {A = ℕ} 0 1 = cc in
               absurd (omega arith)
           go (inr (e, less)) = omega (arith, own-end (e ∙ s))
 
-      past-idle : (j : ℕ) → k ≤ j → j < wholeRows Relocations (l .relocations) → Idle j
+      past-idle : (j : ℕ) → k ≤ j → j < wholeRows Relocations (o .relocations) → Idle j
       past-idle j a b = end-idle j (⊎-elim (λ (same : k ≡ j). λ s. rw same at (own-end (rw same s))) (λ (less : k < j). later-end j less b) (eq-or-lt-of-le a))
 
-      pub none-left : Same (tables l table6) (tasksFrom l row k (wholeRows Relocations (l .relocations) - k)) []
+      pub none-left : Same (tables o) (tasksLeft o row k) []
       none-left =
-          let n = wholeRows Relocations (l .relocations) in
+          let n = wholeRows Relocations (o .relocations) in
           let e : n - k ≡ n - k + 0 = omega arith in
-          then-same (tables l table6) (same (tables l table6) (ap (tasksFrom l row k) e))
-          (then-same (tables l table6) (idle-run (n - k) k 0 (λ j a b. past-idle j a (omega arith))) (same (tables l table6) (end-of l row (k + (n - k)))))
+          then-same (tables o) (same (tables o) (ap (tasksFrom o row k) e))
+          (then-same (tables o) (idle-run (n - k) k 0 (λ j a b. past-idle j a (omega arith))) (same (tables o) (end-of o row (k + (n - k)))))
 
-    pub from-first : firstRow l row ≤ wholeRows Relocations (l .relocations)
-        → Same (tables l table6) (tasksOf (tables l table6) row) (tasksFrom l row (firstRow l row) (wholeRows Relocations (l .relocations) - firstRow l row))
+    pub from-first : firstRow (o .functions) (o .relocations) row ≤ wholeRows Relocations (o .relocations)
+        → Same (tables o) (tasksOf (tables o) row) (tasksLeft o row (firstRow (o .functions) (o .relocations) row))
     from-first h =
-        let n = wholeRows Relocations (l .relocations) in
-        let e : n ≡ firstRow l row + (n - firstRow l row) = omega arith in
-        let f : 0 + firstRow l row ≡ firstRow l row = omega arith in
-        then-same (tables l table6) (same (tables l table6) (all-of ∙ ap (tasksFrom l row 0) e))
-        (then-same (tables l table6)
-        (idle-run (firstRow l row) 0 (n - firstRow l row) (λ j a b. before-idle j (before-bound (l .relocations) sound (functionSection (l .functions) row) (functionOffset (l .functions) row) j (omega arith))))
-        (same (tables l table6) (ap (λ j. tasksFrom l row j (n - firstRow l row)) f)))
+        let n = wholeRows Relocations (o .relocations) in
+        let e : n ≡ firstRow (o .functions) (o .relocations) row + (n - firstRow (o .functions) (o .relocations) row) = omega arith in
+        let f : 0 + firstRow (o .functions) (o .relocations) row ≡ firstRow (o .functions) (o .relocations) row = omega arith in
+        then-same (tables o) (same (tables o) (all-of ∙ ap (tasksFrom o row 0) e))
+        (then-same (tables o)
+        (idle-run (firstRow (o .functions) (o .relocations) row) 0 (n - firstRow (o .functions) (o .relocations) row) (λ j a b. before-idle j (before-bound (o .relocations) sound (functionSection (o .functions) row) (functionOffset (o .functions) row) j (omega arith))))
+        (same (tables o) (ap (λ j. tasksFrom o row j (n - firstRow (o .functions) (o .relocations) row)) f)))
 
 -- ---- one row of the scan
-module _ (l : Lent) (row k n : ℕ) where
-  pub within-next : k < n → relocationSection (l .relocations) k ≡ functionSection (l .functions) row
-      → tasksFrom l row k (n - k) ≡ taskOf l row k ∷ tasksFrom l row (k + 1) (n - (k + 1))
-  unfolding tasksFrom
-  within-next h s =
-      let e : n - k ≡ suc (n - (k + 1)) = omega arith in
-      ap (tasksFrom l row k) e
-      ∙ ap (λ b. map (task row) (cond b (relocationRow (l .relocations) k ∷ only (λ r. eqb (r .home) (functionSection (l .functions) row)) (run (relocationRow (l .relocations)) (suc k) (n - (k + 1))))
-      (only (λ r. eqb (r .home) (functionSection (l .functions) row)) (run (relocationRow (l .relocations)) (suc k) (n - (k + 1)))))) (eq-eqb (relocationSection (l .relocations) k) (functionSection (l .functions) row) s)
-      ∙ ap (λ j. taskOf l row k ∷ tasksFrom l row j (n - (k + 1))) (sym (add-one k))
+module _ (o : Offered) (row k : ℕ) where
+  later : ℕ → List Relocation
+  later n = only (λ r. eqb (r .home) (functionSection (o .functions) row)) (run (relocationRow (o .relocations)) (suc k) n)
 
-  pub scan-end : n ≤ k → tasksFrom l row k (n - k) ≡ []
+  pub within-next : k < wholeRows Relocations (o .relocations) → relocationSection (o .relocations) k ≡ functionSection (o .functions) row
+      → tasksLeft o row k ≡ taskOf o row k ∷ tasksLeft o row (k + 1)
+  unfolding tasksFrom later
+  within-next h s =
+      let n = wholeRows Relocations (o .relocations) in
+      let e : n - k ≡ suc (n - (k + 1)) = omega arith in
+      ap (tasksFrom o row k) e
+      ∙ ap (λ b. map (task row) (cond b (relocationRow (o .relocations) k ∷ later (n - (k + 1))) (later (n - (k + 1)))))
+      (eq-eqb (relocationSection (o .relocations) k) (functionSection (o .functions) row) s)
+      ∙ ap (λ j. taskOf o row k ∷ tasksFrom o row j (n - (k + 1))) (sym (add-one k))
+
+  pub scan-end : wholeRows Relocations (o .relocations) ≤ k → tasksLeft o row k ≡ []
   unfolding tasksFrom
-  scan-end h = let e : n - k ≡ 0 = omega arith in ap (tasksFrom l row k) e
+  scan-end h = let e : wholeRows Relocations (o .relocations) - k ≡ 0 = omega arith in ap (tasksFrom o row k) e
+
+-- ---- the functions from a row on
+abbrev pub rowsLeft : Offered → ℕ → List Task
+rowsLeft o row = tasks (tables o) (tasksOf (tables o)) row (wholeRows Functions (o .functions) - row)
+
+module _ (o : Offered) where
+  pub all-rows : allTasks (tables o) ≡ rowsLeft o 0
+  all-rows =
+      let e : wholeRows Functions (o .functions) ≡ wholeRows Functions (o .functions) - 0 = omega arith in
+      ap (tasks (tables o) (tasksOf (tables o)) 0) (rows-are little o ∙ e)
+
+  pub rows-next : (row : ℕ) → row < wholeRows Functions (o .functions) → rowsLeft o row ≡ tasksOf (tables o) row ++ rowsLeft o (row + 1)
+  rows-next row h =
+      let n = wholeRows Functions (o .functions) in
+      let e : n - row ≡ suc (n - (row + 1)) = omega arith in
+      ap (tasks (tables o) (tasksOf (tables o)) row) e
+      ∙ ap (λ j. tasksOf (tables o) row ++ tasks (tables o) (tasksOf (tables o)) j (n - (row + 1))) (sym (add-one row))
+
+  pub rows-end : (row : ℕ) → wholeRows Functions (o .functions) ≤ row → rowsLeft o row ≡ []
+  rows-end row h = let e : wholeRows Functions (o .functions) - row ≡ 0 = omega arith in ap (tasks (tables o) (tasksOf (tables o)) row) e
+
+-- ---- only the slots are looked at, not table 6 as it was lent
+module _ (o : Offered) (bytes : List ℕ) where
+  pub rewrites-other : (xs : List Task) (image : List Insn) → rewriteInPlace (tables (withInstructions o bytes)) xs image ≡ rewriteInPlace (tables o) xs image
+  unfolding rewriteInPlace judge tablesOf
+  rewrites-other [] image = refl
+  rewrites-other (x ∷ xs) image = rewrites-other xs (rewrite (tables o) (judge (tables o) image x) x image)
+
+  pub counts-other : (xs : List Task) (image : List Insn) → appliedInPlace (tables (withInstructions o bytes)) xs image ≡ appliedInPlace (tables o) xs image
+  unfolding appliedInPlace judge tablesOf
+  counts-other [] image = refl
+  counts-other (x ∷ xs) image = ap (counted (tables o) (judge (tables o) image x)) (counts-other xs (rewrite (tables o) (judge (tables o) image x) x image))

@@ -1,36 +1,31 @@
--- What the two passes over the functions and their relocations answer and leave, whatever table 6 held at first.
+-- What the two passes over the functions and their relocations answer and leave.
 -- Assumes nothing.
 use mathlib.Core.Path.{_≡_}
 use mathlib.Core.Bool.{Bool, _&&_}
 use mathlib.Core.Option.{Option, none, some}
 use mathlib.Core.List.{List}
-use Prim.Native.Nat.{ℕ, _+_, _*_, _≤_, _<_}
+use Prim.Native.Nat.{ℕ, _+_, _*_, _≤_}
 use lib.IntN.{ℤ}
 use lib.Dec.{eqb, ltb}
 use lib.ListN.{length}
 use Rattle.rules.specs.declared.Answer.{Answer}
-use Rattle.rules.specs.declared.Table.the-variants.{Functions, Relocations}
+use Rattle.rules.specs.declared.Table.the-variants.{Relocations}
 use Rattle.rules.specs.Link.{Refusal}
 use Rattle.rules.specs.Bytes.{little, decoded}
-use Rattle.rules.specs.Answers.{Reply, replyOf}
-use Rattle.rules.specs.Maps.{changed, tasksOf, allTasks, firstRefusal, counted, judge, rewrite, rewriteInPlace, appliedInPlace, mapStep}
-use Rattle.rules.specs.Rows.{wholeRows, summed, functionOffset, functionSlots, relocationSection, relocationOffset}
-use Rattle.rules.specs.Lookups.{MapChecked}
-use Rattle.rules.specs.Entries.{refusalReply, byMapOutcome, mapEntry}
+use Rattle.rules.specs.Answers.{Reply, refusedReply, replyOf}
+use Rattle.rules.specs.Maps.{changed, tasksOf, allTasks, firstRefusal, counted, judge, rewrite, mapStep}
+use Rattle.rules.specs.Rows.{Offered, wholeRows, functionSection, functionOffset, functionSlots, relocationSection, relocationOffset}
+use Rattle.rules.specs.Lookups.{relocationsBefore}
+use Rattle.rules.specs.Entries.{refusalReply, MapResult, byMapOutcome}
+use Rattle.rules.proofs.InPlace.{rewriteInPlace, appliedInPlace}
 use Rattle.judge.specs.declared.Verdict.{Verdict}
 use Rattle.judge.specs.declared.Verdict.the-variants.{Skipped, Refused, Plain, Valued}
-use Rattle.judge.specs.Judged.{Lent, offer, tables, taskOf}
-use Rattle.maps.specs.declared.Judgement.{Judgement}
-use Rattle.maps.specs.declared.Judgement.the-variants as judgement
+use Rattle.judge.specs.Judged.{tables, slotsOf, taskOf}
 
 -- ---- refusals
-abbrev pub refusalOf : Judgement → Option Reply
-refusalOf judgement.Passes = none
-refusalOf (judgement.Refused a) = some (replyOf a)
-
 abbrev pub verdictRefusal : Verdict → Option Reply
 verdictRefusal Skipped = none
-verdictRefusal (Refused a) = some (replyOf a)
+verdictRefusal (Refused r) = some (refusedReply r)
 verdictRefusal (Plain here fd) = none
 verdictRefusal (Valued here fd value) = none
 
@@ -45,50 +40,45 @@ isWithin t home end k = eqb (relocationSection t k) home && ltb (relocationOffse
 abbrev pub endOf : List ℕ → ℕ → ℕ
 endOf t row = functionOffset t row + 8 * functionSlots t row
 
-pub record RowAsked (l : Lent) (instructions : List ℕ) (row first : ℕ) : Type 0 where
-  pub checked : MapChecked (offer l instructions)
-  pub row-inside : row < wholeRows Functions (l .functions)
-  pub first-is : first ≡ summed (functionSlots (l .functions)) 0 row
+-- the first row of table 4 at or after the function's start
+abbrev pub firstRow : List ℕ → List ℕ → ℕ → ℕ
+firstRow functions relocations row = relocationsBefore relocations (functionSection functions row) (functionOffset functions row)
 
--- ---- the first pass
-pub record RowJudged (l : Lent) (instructions : List ℕ) (row : ℕ) (r : Judgement) : Type 0 where
-  pub judged : (table6 : List ℕ) → refusalOf r ≡ replied (firstRefusal (tables l table6) (decoded little instructions) (tasksOf (tables l table6) row))
+-- ---- the first pass: what is refused in a function, and in all
+unfoldable pub rowRefusal : Offered → ℕ → Option Reply
+rowRefusal o row = replied (firstRefusal (tables o) (slotsOf o) (tasksOf (tables o) row))
 
-pub record AllJudged (l : Lent) (instructions : List ℕ) (r : Judgement) : Type 0 where
-  pub judged : (table6 : List ℕ) → refusalOf r ≡ replied (firstRefusal (tables l table6) (decoded little instructions) (allTasks (tables l table6)))
+unfoldable pub stepRefusal : Offered → Option Reply
+stepRefusal o = replied (firstRefusal (tables o) (slotsOf o) (allTasks (tables o)))
 
--- ---- the second
-pub record Changed (before : List ℕ) (here : ℕ) (fd : ℤ) (after : List ℕ) : Type 0 where
-  pub image : decoded little after ≡ changed here fd none (decoded little before)
+-- ---- the second: the slots as they stand, judged again and rewritten. `after` is then table 6
+pub record Changed (before : List ℕ) (here : ℕ) (fd : ℤ) (value : Option ℤ) (after : List ℕ) : Type 0 where
+  pub image : decoded little after ≡ changed here fd value (decoded little before)
   pub kept : length after ≡ length before
 
-pub record ValueChanged (before : List ℕ) (here : ℕ) (fd value : ℤ) (after : List ℕ) : Type 0 where
-  pub image : decoded little after ≡ changed here fd (some value) (decoded little before)
-  pub kept : length after ≡ length before
-
-pub record OneRewritten (l : Lent) (before : List ℕ) (row k r : ℕ) (after : List ℕ) : Type 0 where
-  pub image : (table6 : List ℕ) → decoded little after
-      ≡ rewrite (tables l table6) (judge (tables l table6) (decoded little before) (taskOf l row k)) (taskOf l row k) (decoded little before)
-  pub count : (table6 : List ℕ) (later : ℕ) → counted (tables l table6) (judge (tables l table6) (decoded little before) (taskOf l row k)) later ≡ r + later
-  pub kept : length after ≡ length before
+pub record OneRewritten (o : Offered) (row k r : ℕ) (after : List ℕ) : Type 0 where
+  pub image : decoded little after ≡ rewrite (tables o) (judge (tables o) (slotsOf o) (taskOf o row k)) (taskOf o row k) (slotsOf o)
+  pub count : (later : ℕ) → counted (tables o) (judge (tables o) (slotsOf o) (taskOf o row k)) later ≡ r + later
+  pub kept : length after ≡ length (o .instructions)
   pub low : r ≤ 1
 
-pub record RowRewritten (l : Lent) (before : List ℕ) (row r : ℕ) (after : List ℕ) : Type 0 where
-  pub image : (table6 : List ℕ) → decoded little after ≡ rewriteInPlace (tables l table6) (tasksOf (tables l table6) row) (decoded little before)
-  pub count : (table6 : List ℕ) → r ≡ appliedInPlace (tables l table6) (tasksOf (tables l table6) row) (decoded little before)
-  pub kept : length after ≡ length before
-  pub low : r ≤ wholeRows Relocations (l .relocations)
+pub record RowRewritten (o : Offered) (row r : ℕ) (after : List ℕ) : Type 0 where
+  pub image : decoded little after ≡ rewriteInPlace (tables o) (tasksOf (tables o) row) (slotsOf o)
+  pub count : r ≡ appliedInPlace (tables o) (tasksOf (tables o) row) (slotsOf o)
+  pub kept : length after ≡ length (o .instructions)
+  pub low : r ≤ wholeRows Relocations (o .relocations)
 
-pub record AllRewritten (l : Lent) (before : List ℕ) (r : ℕ) (after : List ℕ) : Type 0 where
-  pub image : (table6 : List ℕ) → decoded little after ≡ rewriteInPlace (tables l table6) (allTasks (tables l table6)) (decoded little before)
-  pub count : (table6 : List ℕ) → r ≡ appliedInPlace (tables l table6) (allTasks (tables l table6)) (decoded little before)
-  pub kept : length after ≡ length before
+pub record AllRewritten (o : Offered) (r : ℕ) (after : List ℕ) : Type 0 where
+  pub image : decoded little after ≡ rewriteInPlace (tables o) (allTasks (tables o)) (slotsOf o)
+  pub count : r ≡ appliedInPlace (tables o) (allTasks (tables o)) (slotsOf o)
+  pub kept : length after ≡ length (o .instructions)
 
--- ---- the step: checked tables, and any
-pub record Stepped (l : Lent) (before : List ℕ) (r : Answer) (after : List ℕ) : Type 0 where
-  pub reply : replyOf r ≡ byMapOutcome little before (mapStep (tables l before)) .reply
-  pub instructions : after ≡ byMapOutcome little before (mapStep (tables l before)) .instructions
+-- ---- the step
+-- of checked tables
+unfoldable pub stepResult : Offered → MapResult
+stepResult o = byMapOutcome little (o .instructions) (mapStep (tables o))
 
-pub record Relocated (l : Lent) (before : List ℕ) (r : Answer) (after : List ℕ) : Type 0 where
-  pub reply : replyOf r ≡ mapEntry little (offer l before) .reply
-  pub instructions : after ≡ mapEntry little (offer l before) .instructions
+-- an answer, and what table 6 then holds
+pub record Relocated (result : MapResult) (r : Answer) (after : List ℕ) : Type 0 where
+  pub reply : replyOf r ≡ result .reply
+  pub instructions : after ≡ result .instructions

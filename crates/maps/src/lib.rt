@@ -1,13 +1,10 @@
 // The map step: every relocation of every function judged, then all that apply rewritten in place.
 use insn::next;
+use insn::place;
 use insn::set_immediate;
 use insn::set_source;
-use insn::slot_at;
-use insn::to_offset;
 use judge::Verdict;
 use judge::judge;
-use rows::fields::FUNCTION_SIZE;
-use rows::fields::RELOCATION_SIZE;
 use rows::fields::function_offset;
 use rows::fields::function_section;
 use rows::fields::function_slots;
@@ -15,54 +12,62 @@ use rows::fields::relocation_offset;
 use rows::fields::relocation_section;
 use rows::find::relocations_before;
 use rules::Answer;
+use rules::ByteOffset;
+use rules::Judgement;
+use rules::Places;
 use rules::Slot;
+use rules::limits::FUNCTION_SIZE;
+use rules::limits::RELOCATION_SIZE;
 use tables::checks::check_map_step;
 ghost use mathlib.Core.Path.{_≡_};
+ghost use mathlib.Core.Option.{none, some};
 ghost use Prim.Native.Nat.{suc, _+_, _*_, _≤_, _<_, _^_};
 ghost use lib.ListN.{length};
 ghost use Rattle.rules.specs.declared.Table.the-variants.{Functions, Relocations};
-ghost use Rattle.rules.specs.Rows.{rowSize, wholeRows, functionSection, functionOffset};
-ghost use Rattle.rules.specs.Lookups.{Sound, MapChecked, relocationsBefore};
-ghost use Rattle.judge.specs.Judged.{lent, offer, Asked, Inside};
-ghost use Rattle.maps.specs.Passes.{refusalOf, verdictRefusal, isWithin, endOf, Changed, ValueChanged, RowAsked, RowJudged, AllJudged, OneRewritten, RowRewritten, AllRewritten, Stepped, Relocated};
-
-pub enum Judgement {
-    Passes,
-    Refused(Answer),
-}
+ghost use Rattle.rules.specs.Answers.{refusalIn};
+ghost use Rattle.rules.specs.Bytes.{little};
+ghost use Rattle.rules.specs.Entries.{mapEntry};
+ghost use Rattle.rules.specs.Lent.{was, offeredMaps, lentMaps};
+ghost use Rattle.rules.specs.Lookups.{Sound, MapChecked};
+ghost use Rattle.rules.specs.Rows.{rowSize, wholeRows};
+ghost use Rattle.judge.specs.Judged.{RowAsked, Asked, Inside};
+ghost use Rattle.maps.specs.Passes.{verdictRefusal, rowRefusal, stepRefusal, isWithin, endOf, firstRow};
+ghost use Rattle.maps.specs.Passes.{Changed, OneRewritten, RowRewritten, AllRewritten, stepResult, Relocated};
 
 fn refusal_of(v: Verdict) -> Judgement
-    ensures { λ r. ⌜ refusalOf r ≡ verdictRefusal v ⌝ }
+    ensures { λ r. ⌜ refusalIn r ≡ verdictRefusal v ⌝ }
 {
     match v {
         Verdict::Skipped => Judgement::Passes,
-        Verdict::Refused(a) => Judgement::Refused(a),
+        Verdict::Refused(r) => Judgement::Refused(r),
         Verdict::Plain(_, _) => Judgement::Passes,
         Verdict::Valued(_, _, _) => Judgement::Passes,
     }
 }
 
 // Whether row k of table 4 is of the section `home`, before the offset `end`.
-fn is_within(relocations: &[u8], k: usize, home: u32, end: u64) -> bool
+fn is_within(relocations: &[u8], k: usize, home: u32, end: ByteOffset) -> bool
     requires { ⌜ rowSize Relocations * k + rowSize Relocations ≤ length (now relocations) ⌝ }
-    ensures { λ r. ⌜ r ≡ isWithin (now (relocations .entry)) home end k ⌝ }
+    ensures { λ r. ⌜ r ≡ isWithin (was relocations) home (end .0) k ⌝ }
 {
     let section = relocation_section(relocations, k);
     let offset = relocation_offset(relocations, k);
-    (section == home) & (offset < end)
+    (section == home) & (offset.0 < end.0)
 }
 
-fn end_of(functions: &[u8], row: usize) -> u64
+fn end_of(functions: &[u8], row: usize) -> ByteOffset
     requires { ⌜ Sound Functions (now functions) × (row < wholeRows Functions (now functions)) ⌝ }
-    ensures { λ r. ⌜ r ≡ endOf (now (functions .entry)) row ⌝ }
+    ensures { λ r. ⌜ r .0 ≡ endOf (was functions) row ⌝ }
 {
-    let size = to_offset(slot_at(function_slots(functions, row)));
-    function_offset(functions, row) + size.0
+    place(
+        function_offset(functions, row),
+        function_slots(functions, row),
+    )
 }
 
 fn first_of(functions: &[u8], relocations: &[u8], row: usize) -> usize
     requires { ⌜ Sound Relocations (now relocations) × (row < wholeRows Functions (now functions)) ⌝ }
-    ensures { λ r. ⌜ (r ≡ relocationsBefore (now (relocations .entry)) (functionSection (now (functions .entry)) row) (functionOffset (now (functions .entry)) row)) × (r ≤ wholeRows Relocations (now (relocations .entry))) ⌝ }
+    ensures { λ r. ⌜ (r ≡ firstRow (was functions) (was relocations) row) × (r ≤ wholeRows Relocations (was relocations)) ⌝ }
 {
     relocations_before(
         relocations,
@@ -81,8 +86,8 @@ fn judge_function(
     row: usize,
     first: u32,
 ) -> Judgement
-    requires { ⌜ RowAsked (lent (now code) (now symbols) (now functions) (now relocations) (now maps)) (now instructions) row first ⌝ }
-    ensures { λ r. ⌜ RowJudged (lent (now (code .entry)) (now (symbols .entry)) (now (functions .entry)) (now (relocations .entry)) (now (maps .entry))) (now (instructions .entry)) row r ⌝ }
+    requires { ⌜ RowAsked (offeredMaps code symbols functions relocations maps instructions) row first ⌝ }
+    ensures { λ r. ⌜ refusalIn r ≡ rowRefusal (lentMaps code symbols functions relocations maps instructions) row ⌝ }
 {
     let home = function_section(functions, row);
     let end = end_of(functions, row);
@@ -104,7 +109,7 @@ fn judge_function(
             k,
         ));
         match j {
-            Judgement::Refused(a) => return Judgement::Refused(a),
+            Judgement::Refused(r) => return Judgement::Refused(r),
             Judgement::Passes => k += 1,
         }
     }
@@ -119,8 +124,8 @@ fn judge_all(
     maps: &[u8],
     instructions: &[u8],
 ) -> Judgement
-    requires { ⌜ MapChecked (offer (lent (now code) (now symbols) (now functions) (now relocations) (now maps)) (now instructions)) ⌝ }
-    ensures { λ r. ⌜ AllJudged (lent (now (code .entry)) (now (symbols .entry)) (now (functions .entry)) (now (relocations .entry)) (now (maps .entry))) (now (instructions .entry)) r ⌝ }
+    requires { ⌜ MapChecked (offeredMaps code symbols functions relocations maps instructions) ⌝ }
+    ensures { λ r. ⌜ refusalIn r ≡ stepRefusal (lentMaps code symbols functions relocations maps instructions) ⌝ }
 {
     let n = functions.len() / FUNCTION_SIZE;
     let mut row = 0;
@@ -137,11 +142,10 @@ fn judge_all(
             first,
         );
         match j {
-            Judgement::Refused(a) => {
-                return Judgement::Refused(a);
-            }
+            Judgement::Refused(r) => return Judgement::Refused(r),
             Judgement::Passes => {
-                first += function_slots(functions, row);
+                let slots = function_slots(functions, row);
+                first += slots.0;
                 row += 1;
             }
         }
@@ -151,7 +155,7 @@ fn judge_all(
 
 fn apply_plain(instructions: &mut [u8], here: Slot, fd: i32)
     requires { ⌜ Inside (now instructions) (here .0) ⌝ }
-    ensures { λ _. ⌜ Changed (now (instructions .entry)) (here .0) fd (now (instructions .exit)) ⌝ }
+    ensures { λ _. ⌜ Changed (was instructions) (here .0) fd none (now (instructions .exit)) ⌝ }
 {
     set_source(instructions, here, 1);
     set_immediate(instructions, here, fd);
@@ -159,7 +163,7 @@ fn apply_plain(instructions: &mut [u8], here: Slot, fd: i32)
 
 fn apply_valued(instructions: &mut [u8], here: Slot, fd: i32, value: i32)
     requires { ⌜ Inside (now instructions) (suc (here .0)) × (here .0 + 1 < 2 ^ 32) ⌝ }
-    ensures { λ _. ⌜ ValueChanged (now (instructions .entry)) (here .0) fd value (now (instructions .exit)) ⌝ }
+    ensures { λ _. ⌜ Changed (was instructions) (here .0) fd (some value) (now (instructions .exit)) ⌝ }
 {
     set_source(instructions, here, 2);
     set_immediate(instructions, next(here), value);
@@ -178,8 +182,8 @@ fn rewrite_one(
     first: u32,
     k: usize,
 ) -> u32
-    requires { ⌜ Asked (lent (now code) (now symbols) (now functions) (now relocations) (now maps)) (now instructions) row first k ⌝ }
-    ensures { λ r. ⌜ OneRewritten (lent (now (code .entry)) (now (symbols .entry)) (now (functions .entry)) (now (relocations .entry)) (now (maps .entry))) (now (instructions .entry)) row k r (now (instructions .exit)) ⌝ }
+    requires { ⌜ Asked (offeredMaps code symbols functions relocations maps instructions) row first k ⌝ }
+    ensures { λ r. ⌜ OneRewritten (lentMaps code symbols functions relocations maps instructions) row k r (now (instructions .exit)) ⌝ }
 {
     let v = judge(
         code,
@@ -216,8 +220,8 @@ fn rewrite_function(
     row: usize,
     first: u32,
 ) -> u32
-    requires { ⌜ RowAsked (lent (now code) (now symbols) (now functions) (now relocations) (now maps)) (now instructions) row first ⌝ }
-    ensures { λ r. ⌜ RowRewritten (lent (now (code .entry)) (now (symbols .entry)) (now (functions .entry)) (now (relocations .entry)) (now (maps .entry))) (now (instructions .entry)) row r (now (instructions .exit)) ⌝ }
+    requires { ⌜ RowAsked (offeredMaps code symbols functions relocations maps instructions) row first ⌝ }
+    ensures { λ r. ⌜ RowRewritten (lentMaps code symbols functions relocations maps instructions) row r (now (instructions .exit)) ⌝ }
 {
     let home = function_section(functions, row);
     let end = end_of(functions, row);
@@ -252,8 +256,8 @@ fn rewrite_all(
     maps: &[u8],
     instructions: &mut [u8],
 ) -> u32
-    requires { ⌜ MapChecked (offer (lent (now code) (now symbols) (now functions) (now relocations) (now maps)) (now instructions)) ⌝ }
-    ensures { λ r. ⌜ AllRewritten (lent (now (code .entry)) (now (symbols .entry)) (now (functions .entry)) (now (relocations .entry)) (now (maps .entry))) (now (instructions .entry)) r (now (instructions .exit)) ⌝ }
+    requires { ⌜ MapChecked (offeredMaps code symbols functions relocations maps instructions) ⌝ }
+    ensures { λ r. ⌜ AllRewritten (lentMaps code symbols functions relocations maps instructions) r (now (instructions .exit)) ⌝ }
 {
     let rows = functions.len() / FUNCTION_SIZE;
     let mut row = 0;
@@ -270,7 +274,8 @@ fn rewrite_all(
             row,
             first,
         );
-        first += function_slots(functions, row);
+        let slots = function_slots(functions, row);
+        first += slots.0;
         row += 1;
     }
     count
@@ -284,15 +289,15 @@ fn relocate_checked(
     maps: &[u8],
     instructions: &mut [u8],
 ) -> Answer
-    requires { ⌜ MapChecked (offer (lent (now code) (now symbols) (now functions) (now relocations) (now maps)) (now instructions)) ⌝ }
-    ensures { λ r. ⌜ Stepped (lent (now (code .entry)) (now (symbols .entry)) (now (functions .entry)) (now (relocations .entry)) (now (maps .entry))) (now (instructions .entry)) r (now (instructions .exit)) ⌝ }
+    requires { ⌜ MapChecked (offeredMaps code symbols functions relocations maps instructions) ⌝ }
+    ensures { λ r. ⌜ Relocated (stepResult (lentMaps code symbols functions relocations maps instructions)) r (now (instructions .exit)) ⌝ }
 {
     let j = judge_all(code, symbols, functions, relocations, maps, instructions);
     match j {
-        Judgement::Refused(a) => a,
+        Judgement::Refused(r) => Answer::Refused(r),
         Judgement::Passes => {
             let count = rewrite_all(code, symbols, functions, relocations, maps, instructions);
-            Answer::Done(count, 0, 0)
+            Answer::Done(Places(count, 0, 0))
         }
     }
 }
@@ -306,11 +311,18 @@ pub fn relocate_maps(
     maps: &[u8],
     instructions: &mut [u8],
 ) -> Answer
-    ensures { λ r. ⌜ Relocated (lent (now (code .entry)) (now (symbols .entry)) (now (functions .entry)) (now (relocations .entry)) (now (maps .entry))) (now (instructions .entry)) r (now (instructions .exit)) ⌝ }
+    ensures { λ r. ⌜ Relocated (mapEntry little (lentMaps code symbols functions relocations maps instructions)) r (now (instructions .exit)) ⌝ }
 {
-    let a = check_map_step(code, symbols, functions, relocations, maps, instructions);
-    let Answer::Done(_, _, _) = a else {
-        return a;
-    };
-    relocate_checked(code, symbols, functions, relocations, maps, instructions)
+    let checked = check_map_step(code, symbols, functions, relocations, maps, instructions);
+    match checked {
+        Judgement::Refused(r) => Answer::Refused(r),
+        Judgement::Passes => relocate_checked(
+            code,
+            symbols,
+            functions,
+            relocations,
+            maps,
+            instructions,
+        ),
+    }
 }

@@ -10,7 +10,8 @@ use borrow.Author.Tests.{leb-true, leb-false, le-leb, lt-leb}
 use lib.Dec.{leb}
 use lib.ListN.{length}
 use Rattle.rules.specs.declared.Table.the-variants.{Instructions, FuncInfo, LineInfo}
-use Rattle.rules.specs.Rows.{rowSize, mostImageSlots, mostImageFunctions, mostImageLines, functionSlots, functionFuncInfo, functionLineInfo}
+use Rattle.rules.specs.Lent.{Buffers}
+use Rattle.rules.specs.Rows.{Offered, rowSize, mostImageSlots, mostImageFunctions, mostImageLines, functionSlots, functionFuncInfo, functionLineInfo}
 use Rattle.rules.proofs.Passed.{and-left, and-right}
 use Rattle.merge.specs.declared.Used.{Used}
 use Rattle.merge.specs.Merge.{RowCounts, PartBegins, Sums, Parts, roomOf, roomBytes, Copyable}
@@ -57,8 +58,8 @@ pub room-counted : (functions : List ℕ) (image funcs lines : ℕ) (used : Used
 unfolding roomBytes
 room-counted functions image funcs lines used row more e = rw (e .slots-are, e .funcs-are, e .lines-are)
 
-pub sums : (functions instructions funcInfo lineInfo : List ℕ) (row : ℕ) → Parts functions instructions funcInfo lineInfo row → Sums functions row
-sums functions instructions funcInfo lineInfo row parts = record {
+pub sums : (o : Offered) (row : ℕ) → Parts o row → Sums (o .functions) row
+sums o row parts = record {
   in-table = omega (arith, parts .is-row);
   few-slots = omega (arith, parts .slots-inside, parts .few-slots);
   few-funcs = omega (arith, parts .funcs-inside, parts .few-funcs);
@@ -66,19 +67,19 @@ sums functions instructions funcInfo lineInfo row parts = record {
 }
 
 -- from where to where a row's part is copied
-pub record Places (instructions funcInfo lineInfo image funcs lines : List ℕ) (used part more : Used) : Type 0 where
-  pub slots : Copyable (rowSize Instructions) instructions (part .slots) (more .slots) image (used .slots)
-  pub functionRecords : Copyable (rowSize FuncInfo) funcInfo (part .funcs) (more .funcs) funcs (used .funcs)
-  pub lineRecords : Copyable (rowSize LineInfo) lineInfo (part .lines) (more .lines) lines (used .lines)
+pub record Places (o : Offered) (b : Buffers) (used part more : Used) : Type 0 where
+  pub slots : Copyable (rowSize Instructions) (o .instructions) (part .slots) (more .slots) (b .image) (used .slots)
+  pub functionRecords : Copyable (rowSize FuncInfo) (o .funcInfo) (part .funcs) (more .funcs) (b .funcs) (used .funcs)
+  pub lineRecords : Copyable (rowSize LineInfo) (o .lineInfo) (part .lines) (more .lines) (b .lines) (used .lines)
   pub most-slots : used .slots + more .slots ≤ mostImageSlots
   pub most-funcs : used .funcs + more .funcs ≤ mostImageFunctions
   pub most-lines : used .lines + more .lines ≤ mostImageLines
 
-pub places : (functions instructions funcInfo lineInfo image funcs lines : List ℕ) (used : Used) (row : ℕ) (part more : Used)
-    → Parts functions instructions funcInfo lineInfo row → roomBytes functions (length image) (length funcs) (length lines) used row ≡ true
-    → PartBegins functions row part → RowCounts functions row more → Places instructions funcInfo lineInfo image funcs lines used part more
-places functions instructions funcInfo lineInfo image funcs lines used row part more parts room begins counts =
-    let r = roomy functions (length image) (length funcs) (length lines) used row room in record {
+pub places : (o : Offered) (b : Buffers) (used : Used) (row : ℕ) (part more : Used)
+    → Parts o row → roomBytes (o .functions) (length (b .image)) (length (b .funcs)) (length (b .lines)) used row ≡ true
+    → PartBegins (o .functions) row part → RowCounts (o .functions) row more → Places o b used part more
+places o b used row part more parts room begins counts =
+    let r = roomy (o .functions) (length (b .image)) (length (b .funcs)) (length (b .lines)) used row room in record {
       slots = record { inside = omega (arith, parts .slots-inside, begins .slots-are, counts .slots-are); room = omega (arith, r .slots .left, counts .slots-are) };
       functionRecords = record { inside = omega (arith, parts .funcs-inside, begins .funcs-are, counts .funcs-are); room = omega (arith, r .functionRecords .left, counts .funcs-are) };
       lineRecords = record { inside = omega (arith, parts .lines-inside, begins .lines-are, counts .lines-are); room = omega (arith, r .lineRecords .left, counts .lines-are) };

@@ -11,27 +11,38 @@ use Rattle.rules.specs.declared.Table.the-variants.{Functions, Instructions, Fu
 use Rattle.rules.specs.Bytes.{little, bytes4, splice}
 use Rattle.rules.specs.Link.{run}
 use Rattle.rules.specs.Tables.{FunctionRecord, LineRecord}
-use Rattle.rules.specs.Rows.{rowSize, mostRows, wholeRows, functionSlots, functionFuncInfo, functionLineInfo, recordSlot, funcInfoRow, lineInfoRow, summed}
+use Rattle.rules.specs.Lent.{Buffers}
+use Rattle.rules.specs.Rows.{rowSize, mostRows, wholeRows, Offered, functionSlots, functionFuncInfo, functionLineInfo, recordSlot, funcInfoRow, lineInfoRow, summed}
 use Rattle.rules.specs.Records.{Room, startedAt, rebased, firstSlot, stray}
 use Rattle.rules.specs.Entries.{funcInfoBytes, lineInfoBytes, roomIn}
 use Rattle.merge.specs.declared.Used.{Used}
 
+-- the records from there on, as many as that
+abbrev pub funcsFrom : List ℕ → ℕ → ℕ → List FunctionRecord
+funcsFrom funcInfo = run (funcInfoRow little funcInfo)
+
+abbrev pub linesFrom : List ℕ → ℕ → ℕ → List LineRecord
+linesFrom lineInfo = run (lineInfoRow little lineInfo)
+
+-- "Appended line records become start + (slot − slot of that function's first line record)"
+abbrev pub moved : ℕ → List LineRecord → List LineRecord
+moved start ls = map (rebased (firstSlot ls) start) ls
+
 unfoldable pub slotBytes : List ℕ → List ℕ → ℕ → List ℕ
-slotBytes functions instructions row = take (8 * functionSlots functions row) (drop (8 * summed (functionSlots functions) 0 row) instructions)
+slotBytes functions instructions row = take (rowSize Instructions * functionSlots functions row) (drop (rowSize Instructions * summed (functionSlots functions) 0 row) instructions)
 
 abbrev pub funcRows : List ℕ → List ℕ → ℕ → List FunctionRecord
-funcRows functions funcInfo row = run (funcInfoRow little funcInfo) (summed (functionFuncInfo functions) 0 row) (functionFuncInfo functions row)
+funcRows functions funcInfo row = funcsFrom funcInfo (summed (functionFuncInfo functions) 0 row) (functionFuncInfo functions row)
 
 abbrev pub lineRows : List ℕ → List ℕ → ℕ → List LineRecord
-lineRows functions lineInfo row = run (lineInfoRow little lineInfo) (summed (functionLineInfo functions) 0 row) (functionLineInfo functions row)
+lineRows functions lineInfo row = linesFrom lineInfo (summed (functionLineInfo functions) 0 row) (functionLineInfo functions row)
 
 -- "Appended function records all get the start as slot"
 unfoldable pub funcBytes : List ℕ → List ℕ → ℕ → ℕ → List ℕ
 funcBytes functions funcInfo row start = funcInfoBytes little (map (startedAt start) (funcRows functions funcInfo row))
 
--- "Appended line records become start + (slot − slot of that function's first line record)"
 unfoldable pub lineBytes : List ℕ → List ℕ → ℕ → ℕ → List ℕ
-lineBytes functions lineInfo row start = lineInfoBytes little (map (rebased (firstSlot (lineRows functions lineInfo row)) start) (lineRows functions lineInfo row))
+lineBytes functions lineInfo row start = lineInfoBytes little (moved start (lineRows functions lineInfo row))
 
 -- "12 if that difference is negative or not below the function's slots": the first such record
 abbrev pub strayIn : List ℕ → List ℕ → ℕ → Option ℕ
@@ -57,14 +68,14 @@ pub record Sums (functions : List ℕ) (row : ℕ) : Type 0 where
   pub few-lines : summed (functionLineInfo functions) 0 row < 0x1_0000_0000
 
 -- a row whose parts stand inside tables 6, 7 and 8, none of which has too many rows
-pub record Parts (functions instructions funcInfo lineInfo : List ℕ) (row : ℕ) : Type 0 where
-  pub is-row : row < wholeRows Functions functions
-  pub slots-inside : rowSize Instructions * (summed (functionSlots functions) 0 row + functionSlots functions row) ≤ length instructions
-  pub funcs-inside : rowSize FuncInfo * (summed (functionFuncInfo functions) 0 row + functionFuncInfo functions row) ≤ length funcInfo
-  pub lines-inside : rowSize LineInfo * (summed (functionLineInfo functions) 0 row + functionLineInfo functions row) ≤ length lineInfo
-  pub few-slots : length instructions ≤ rowSize Instructions * mostRows Instructions
-  pub few-funcs : length funcInfo ≤ rowSize FuncInfo * mostRows FuncInfo
-  pub few-lines : length lineInfo ≤ rowSize LineInfo * mostRows LineInfo
+pub record Parts (o : Offered) (row : ℕ) : Type 0 where
+  pub is-row : row < wholeRows Functions (o .functions)
+  pub slots-inside : rowSize Instructions * (summed (functionSlots (o .functions)) 0 row + functionSlots (o .functions) row) ≤ length (o .instructions)
+  pub funcs-inside : rowSize FuncInfo * (summed (functionFuncInfo (o .functions)) 0 row + functionFuncInfo (o .functions) row) ≤ length (o .funcInfo)
+  pub lines-inside : rowSize LineInfo * (summed (functionLineInfo (o .functions)) 0 row + functionLineInfo (o .functions) row) ≤ length (o .lineInfo)
+  pub few-slots : length (o .instructions) ≤ rowSize Instructions * mostRows Instructions
+  pub few-funcs : length (o .funcInfo) ≤ rowSize FuncInfo * mostRows FuncInfo
+  pub few-lines : length (o .lineInfo) ≤ rowSize LineInfo * mostRows LineInfo
 
 -- "room for instructions, function records, line records", for outputs of so many bytes that hold so much
 abbrev pub roomOf : ℕ → ℕ → ℕ → Room
@@ -99,28 +110,31 @@ pub record Nearby (lineInfo : List ℕ) (first start k : ℕ) : Type 0 where
 abbrev pub Near : List ℕ → ℕ → ℕ → ℕ → Type 0
 Near lineInfo first count start = (k : ℕ) → k < count → Nearby lineInfo first start k
 
-pub record Extends (functions instructions funcInfo lineInfo image funcs lines : List ℕ) (used : Used) (row : ℕ) : Type 0 where
-  pub parts : Parts functions instructions funcInfo lineInfo row
-  pub room : roomBytes functions (length image) (length funcs) (length lines) used row ≡ true
-  pub no-stray : strayIn functions lineInfo row ≡ none
+pub record Extends (o : Offered) (b : Buffers) (used : Used) (row : ℕ) (part : Used) : Type 0 where
+  pub parts : Parts o row
+  pub begins : PartBegins (o .functions) row part
+  pub room : roomBytes (o .functions) (length (b .image)) (length (b .funcs)) (length (b .lines)) used row ≡ true
+  pub no-stray : strayIn (o .functions) (o .lineInfo) row ≡ none
 
-pub record Extended (functions instructions funcInfo lineInfo image funcs lines image′ funcs′ lines′ : List ℕ) (used : Used) (row : ℕ) (used′ : Used) : Type 0 where
-  pub image-is : image′ ≡ splice image (8 * used .slots) (slotBytes functions instructions row)
-  pub funcs-is : funcs′ ≡ splice funcs (8 * used .funcs) (funcBytes functions funcInfo row (used .slots))
-  pub lines-is : lines′ ≡ splice lines (16 * used .lines) (lineBytes functions lineInfo row (used .slots))
+pub record Extended (o : Offered) (b b′ : Buffers) (used : Used) (row : ℕ) (used′ : Used) : Type 0 where
+  pub image-is : b′ .image ≡ splice (b .image) (rowSize Instructions * used .slots) (slotBytes (o .functions) (o .instructions) row)
+  pub funcs-is : b′ .funcs ≡ splice (b .funcs) (rowSize FuncInfo * used .funcs) (funcBytes (o .functions) (o .funcInfo) row (used .slots))
+  pub lines-is : b′ .lines ≡ splice (b .lines) (rowSize LineInfo * used .lines) (lineBytes (o .functions) (o .lineInfo) row (used .slots))
   pub counts :
-      Counts (used .slots + functionSlots functions row) (used .funcs + functionFuncInfo functions row) (used .lines + functionLineInfo functions row) used′
+      Counts (used .slots + functionSlots (o .functions) row) (used .funcs + functionFuncInfo (o .functions) row)
+      (used .lines + functionLineInfo (o .functions) row) used′
 
 abbrev pub unused : Used
 unused = record { slots = 0; funcs = 0; lines = 0 }
 
-pub record Begins (functions instructions funcInfo lineInfo image funcs lines : List ℕ) (row : ℕ) : Type 0 where
-  pub parts : Parts functions instructions funcInfo lineInfo row
-  pub room : roomBytes functions (length image) (length funcs) (length lines) unused row ≡ true
+pub record Begins (o : Offered) (b : Buffers) (row : ℕ) (part : Used) : Type 0 where
+  pub parts : Parts o row
+  pub begins : PartBegins (o .functions) row part
+  pub room : roomBytes (o .functions) (length (b .image)) (length (b .funcs)) (length (b .lines)) unused row ≡ true
 
 -- "The image starts as the root with its records unchanged"
-pub record Begun (functions instructions funcInfo lineInfo image funcs lines image′ funcs′ lines′ : List ℕ) (row : ℕ) (used′ : Used) : Type 0 where
-  pub image-is : image′ ≡ splice image 0 (slotBytes functions instructions row)
-  pub funcs-is : funcs′ ≡ splice funcs 0 (funcInfoBytes little (funcRows functions funcInfo row))
-  pub lines-is : lines′ ≡ splice lines 0 (lineInfoBytes little (lineRows functions lineInfo row))
-  pub counts : RowCounts functions row used′
+pub record Begun (o : Offered) (b b′ : Buffers) (row : ℕ) (used′ : Used) : Type 0 where
+  pub image-is : b′ .image ≡ splice (b .image) 0 (slotBytes (o .functions) (o .instructions) row)
+  pub funcs-is : b′ .funcs ≡ splice (b .funcs) 0 (funcInfoBytes little (funcRows (o .functions) (o .funcInfo) row))
+  pub lines-is : b′ .lines ≡ splice (b .lines) 0 (lineInfoBytes little (lineRows (o .functions) (o .lineInfo) row))
+  pub counts : RowCounts (o .functions) row used′

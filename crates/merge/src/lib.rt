@@ -1,6 +1,4 @@
 // One function added to an image: room, line records that stray, copies of slots and records.
-use rows::fields::FUNC_INFO_SIZE;
-use rows::fields::LINE_INFO_SIZE;
 use rows::fields::func_info_type;
 use rows::fields::function_func_info;
 use rows::fields::function_line_info;
@@ -10,6 +8,12 @@ use rows::fields::line_info_file;
 use rows::fields::line_info_line;
 use rows::fields::line_info_slot;
 use rules::Found;
+use rules::limits::FUNC_INFO_SIZE;
+use rules::limits::INSTRUCTION_SIZE;
+use rules::limits::LINE_INFO_SIZE;
+use rules::limits::MOST_IMAGE_FUNC_INFO;
+use rules::limits::MOST_IMAGE_LINE_INFO;
+use rules::limits::MOST_IMAGE_SLOTS;
 use wire::copy;
 use wire::put_u32;
 ghost use mathlib.Core.Path.{_≡_};
@@ -19,21 +23,13 @@ ghost use lib.Dec.{leb};
 ghost use lib.ListN.{length, take, drop};
 ghost use Rattle.rules.specs.declared.Table.the-variants.{Functions, FuncInfo, LineInfo};
 ghost use Rattle.rules.specs.Bytes.{little, splice};
-ghost use Rattle.rules.specs.Link.{run};
-ghost use Rattle.rules.specs.Rows.{rowSize, wholeRows, funcInfoRow, lineInfoRow};
-ghost use Rattle.rules.specs.Records.{startedAt, rebased, firstSlot};
+ghost use Rattle.rules.specs.Lent.{was, offeredParts, lentParts, outputs, lentOutputs};
+ghost use Rattle.rules.specs.Rows.{rowSize, wholeRows};
+ghost use Rattle.rules.specs.Records.{startedAt};
 ghost use Rattle.rules.specs.Entries.{funcInfoBytes, lineInfoBytes};
 ghost use Rattle.rules.specs.Lookups.{foundOf};
-ghost use Rattle.merge.specs.Merge.{strayIn, RowCounts, PartBegins, Sums, roomBytes, Lined, Copyable, pairBytes, Near, Extends, Extended, Begins, Begun};
-
-pub const SLOT_SIZE: usize = 8;
-
-// What an image may hold.
-pub const MOST_SLOTS: usize = 4096;
-
-pub const MOST_FUNCS: usize = 256;
-
-pub const MOST_LINES: usize = 4096;
+ghost use Rattle.merge.specs.Merge.{RowCounts, PartBegins, Sums, roomBytes, Lined, strayIn, Copyable, pairBytes};
+ghost use Rattle.merge.specs.Merge.{funcsFrom, linesFrom, moved, Near, Extends, Extended, Begins, Begun};
 
 // How much an image holds: slots, function records, line records.
 pub struct Used {
@@ -44,13 +40,13 @@ pub struct Used {
 
 fn counts(functions: &[u8], row: usize) -> Used
     requires { ⌜ row < wholeRows Functions (now functions) ⌝ }
-    ensures { λ r. ⌜ RowCounts (now (functions .entry)) row r ⌝ }
+    ensures { λ r. ⌜ RowCounts (was functions) row r ⌝ }
 {
     let slots = function_slots(functions, row);
     let funcs = function_func_info(functions, row);
     let lines = function_line_info(functions, row);
     Used {
-        slots,
+        slots: slots.0,
         funcs,
         lines,
     }
@@ -59,14 +55,16 @@ fn counts(functions: &[u8], row: usize) -> Used
 // Where a row's part begins in tables 6, 7 and 8.
 pub fn part_of(functions: &[u8], row: usize) -> Used
     requires { ⌜ Sums (now functions) row ⌝ }
-    ensures { λ r. ⌜ PartBegins (now (functions .entry)) row r ⌝ }
+    ensures { λ r. ⌜ PartBegins (was functions) row r ⌝ }
 {
     let mut slots: u32 = 0;
     let mut funcs: u32 = 0;
     let mut lines: u32 = 0;
     let mut k = 0;
     while k < row {
-        slots += function_slots(functions, k);
+        let own = function_slots(functions, k);
+        let more = own.0;
+        slots += more;
         funcs += function_func_info(functions, k);
         lines += function_line_info(functions, k);
         k += 1;
@@ -99,29 +97,48 @@ pub fn has_room(
     row: usize,
 ) -> bool
     requires { ⌜ row < wholeRows Functions (now functions) ⌝ }
-    ensures { λ r. ⌜ r ≡ roomBytes (now (functions .entry)) image funcs lines used row ⌝ }
+    ensures { λ r. ⌜ r ≡ roomBytes (was functions) image funcs lines used row ⌝ }
 {
-    let more = counts(functions, row);
-    if !fits(used.slots, more.slots, image, SLOT_SIZE, MOST_SLOTS) {
+    let added = counts(functions, row);
+    if !fits(
+        used.slots,
+        added.slots,
+        image,
+        INSTRUCTION_SIZE,
+        MOST_IMAGE_SLOTS,
+    ) {
         return false;
     }
-    if !fits(used.funcs, more.funcs, funcs, FUNC_INFO_SIZE, MOST_FUNCS) {
+    if !fits(
+        used.funcs,
+        added.funcs,
+        funcs,
+        FUNC_INFO_SIZE,
+        MOST_IMAGE_FUNC_INFO,
+    ) {
         return false;
     }
-    fits(used.lines, more.lines, lines, LINE_INFO_SIZE, MOST_LINES)
+    fits(
+        used.lines,
+        added.lines,
+        lines,
+        LINE_INFO_SIZE,
+        MOST_IMAGE_LINE_INFO,
+    )
 }
 
 // The first line record of a function that lies before its first one, or past its slots.
 pub fn stray_line(functions: &[u8], line_info: &[u8], row: usize, first: u32) -> Found
     requires { ⌜ Lined (now functions) (now «line_info») row first ⌝ }
-    ensures { λ r. ⌜ r ≡ foundOf (strayIn (now (functions .entry)) (now («line_info» .entry)) row) ⌝ }
+    ensures { λ r. ⌜ r ≡ foundOf (strayIn (was functions) (was «line_info») row) ⌝ }
 {
     let at = first as usize;
     let count = function_line_info(functions, row) as usize;
     if count == 0 {
         return Found::Nothing;
     }
-    let slots = function_slots(functions, row);
+    let own = function_slots(functions, row);
+    let slots = own.0;
     let origin = line_info_slot(line_info, at);
     let mut k = 0;
     while k < count {
@@ -140,7 +157,7 @@ pub fn stray_line(functions: &[u8], line_info: &[u8], row: usize, first: u32) ->
 
 fn put_pair(out: &mut [u8], at: usize, a: u32, b: u32)
     requires { ⌜ at + 8 ≤ length (now out) ⌝ }
-    ensures { λ _. ⌜ now (out .exit) ≡ splice (now (out .entry)) at (pairBytes a b) ⌝ }
+    ensures { λ _. ⌜ now (out .exit) ≡ splice (was out) at (pairBytes a b) ⌝ }
 {
     put_u32(out, at, a);
     put_u32(out, at + 4, b);
@@ -148,7 +165,9 @@ fn put_pair(out: &mut [u8], at: usize, a: u32, b: u32)
 
 fn copy_rows(size: usize, table: &[u8], first: u32, count: u32, out: &mut [u8], at: u32)
     requires { ⌜ Copyable size (now table) first count (now out) at ⌝ }
-    ensures { λ _. ⌜ now (out .exit) ≡ splice (now (out .entry)) (size * at) (take (size * count) (drop (size * first) (now (table .entry)))) ⌝ }
+    ensures { λ _. ⌜
+        now (out .exit) ≡ splice (was out) (size * at) (take (size * count) (drop (size * first) (was table)))
+        ⌝ }
 {
     copy(
         out,
@@ -162,7 +181,11 @@ fn copy_rows(size: usize, table: &[u8], first: u32, count: u32, out: &mut [u8], 
 // The crate's link_func_and_line_info, a function for each kind of record.
 fn link_func_info(func_info: &[u8], part: Used, more: Used, out: &mut [u8], used: Used)
     requires { ⌜ Copyable (rowSize FuncInfo) (now «func_info») (part .funcs) (more .funcs) (now out) (used .funcs) ⌝ }
-    ensures { λ _. ⌜ now (out .exit) ≡ splice (now (out .entry)) (rowSize FuncInfo * used .funcs) (funcInfoBytes little (map (startedAt (used .slots)) (run (funcInfoRow little (now («func_info» .entry))) (part .funcs) (more .funcs)))) ⌝ }
+    ensures { λ _. ⌜ now (out .exit) ≡ splice
+        (was out)
+        (rowSize FuncInfo * used .funcs)
+        (funcInfoBytes little (map (startedAt (used .slots)) (funcsFrom (was «func_info») (part .funcs) (more .funcs))))
+        ⌝ }
 {
     let from = part.funcs as usize;
     let to = used.funcs as usize;
@@ -177,8 +200,15 @@ fn link_func_info(func_info: &[u8], part: Used, more: Used, out: &mut [u8], used
 }
 
 fn link_line_info(line_info: &[u8], part: Used, more: Used, out: &mut [u8], used: Used)
-    requires { ⌜ (Copyable (rowSize LineInfo) (now «line_info») (part .lines) (more .lines) (now out) (used .lines)) × (Near (now «line_info») (part .lines) (more .lines) (used .slots)) ⌝ }
-    ensures { λ _. ⌜ now (out .exit) ≡ splice (now (out .entry)) (rowSize LineInfo * used .lines) (lineInfoBytes little (map (rebased (firstSlot (run (lineInfoRow little (now («line_info» .entry))) (part .lines) (more .lines))) (used .slots)) (run (lineInfoRow little (now («line_info» .entry))) (part .lines) (more .lines)))) ⌝ }
+    requires { ⌜
+        (Copyable (rowSize LineInfo) (now «line_info») (part .lines) (more .lines) (now out) (used .lines))
+        × (Near (now «line_info») (part .lines) (more .lines) (used .slots))
+        ⌝ }
+    ensures { λ _. ⌜ now (out .exit) ≡ splice
+        (was out)
+        (rowSize LineInfo * used .lines)
+        (lineInfoBytes little (moved (used .slots) (linesFrom (was «line_info») (part .lines) (more .lines))))
+        ⌝ }
 {
     let from = part.lines as usize;
     let to = used.lines as usize;
@@ -200,7 +230,7 @@ fn link_line_info(line_info: &[u8], part: Used, more: Used, out: &mut [u8], used
     }
 }
 
-// A function after the others: its slots, and its records moved to where it starts.
+// A function after the others: its slots, and its records moved to where it starts. Its part begins there in the tables.
 pub fn extend(
     functions: &[u8],
     instructions: &[u8],
@@ -211,14 +241,27 @@ pub fn extend(
     image_line_info: &mut [u8],
     used: Used,
     row: usize,
+    part: Used,
 ) -> Used
-    requires { ⌜ Extends (now functions) (now instructions) (now «func_info») (now «line_info») (now image) (now «image_func_info») (now «image_line_info») used row ⌝ }
-    ensures { λ r. ⌜ Extended (now (functions .entry)) (now (instructions .entry)) (now («func_info» .entry)) (now («line_info» .entry)) (now (image .entry)) (now («image_func_info» .entry)) (now («image_line_info» .entry)) (now (image .exit)) (now («image_func_info» .exit)) (now («image_line_info» .exit)) used row r ⌝ }
+    requires { ⌜ Extends
+        (offeredParts functions instructions «func_info» «line_info»)
+        (outputs image «image_func_info» «image_line_info»)
+        used
+        row
+        part
+        ⌝ }
+    ensures { λ r. ⌜ Extended
+        (lentParts functions instructions «func_info» «line_info»)
+        (lentOutputs image «image_func_info» «image_line_info»)
+        (outputs (image .exit) («image_func_info» .exit) («image_line_info» .exit))
+        used
+        row
+        r
+        ⌝ }
 {
-    let part = part_of(functions, row);
     let more = counts(functions, row);
     copy_rows(
-        SLOT_SIZE,
+        INSTRUCTION_SIZE,
         instructions,
         part.slots,
         more.slots,
@@ -244,13 +287,31 @@ pub fn begin(
     image_func_info: &mut [u8],
     image_line_info: &mut [u8],
     row: usize,
+    part: Used,
 ) -> Used
-    requires { ⌜ Begins (now functions) (now instructions) (now «func_info») (now «line_info») (now image) (now «image_func_info») (now «image_line_info») row ⌝ }
-    ensures { λ r. ⌜ Begun (now (functions .entry)) (now (instructions .entry)) (now («func_info» .entry)) (now («line_info» .entry)) (now (image .entry)) (now («image_func_info» .entry)) (now («image_line_info» .entry)) (now (image .exit)) (now («image_func_info» .exit)) (now («image_line_info» .exit)) row r ⌝ }
+    requires { ⌜ Begins
+        (offeredParts functions instructions «func_info» «line_info»)
+        (outputs image «image_func_info» «image_line_info»)
+        row
+        part
+        ⌝ }
+    ensures { λ r. ⌜ Begun
+        (lentParts functions instructions «func_info» «line_info»)
+        (lentOutputs image «image_func_info» «image_line_info»)
+        (outputs (image .exit) («image_func_info» .exit) («image_line_info» .exit))
+        row
+        r
+        ⌝ }
 {
-    let part = part_of(functions, row);
     let more = counts(functions, row);
-    copy_rows(SLOT_SIZE, instructions, part.slots, more.slots, image, 0);
+    copy_rows(
+        INSTRUCTION_SIZE,
+        instructions,
+        part.slots,
+        more.slots,
+        image,
+        0,
+    );
     copy_rows(
         FUNC_INFO_SIZE,
         func_info,

@@ -15,7 +15,8 @@ use Rattle.rules.specs.Rows.{Offered, tablesOf}
 use Rattle.rules.specs.Entries.{linkEntry}
 use Rattle.rules.specs.Demand3.{usedImage}
 use Rattle.rules.proofs.Rounds.{Bytes}
-use Rattle.linker.specs.Linker.{Buffers, lentBy, Outcomes}
+use Rattle.rules.specs.Lent.{Buffers, lentBy}
+use Rattle.linker.specs.Linker.{Outcomes}
 use Rattle.linker.proofs.Kept.{said, link-keeps-path}
 use Rattle.walk.specs.Runs.{ran}
 use Rattle.walk.specs.Alike.{Alike}

@@ -1,19 +1,21 @@
--- What is taken of a case from the input. Which bytes come, and whether as many come as are asked for, only the input says.
+-- A case as it stands in the input.
 -- Assumes nothing.
-use mathlib.Core.Path.{_≡_}
 use mathlib.Core.Bool.{Bool, true, false}
-use mathlib.Core.List.{List}
-use Prim.Native.Nat.{ℕ, _*_, _<_, _≤_}
-use lib.ListN.{length, drop}
+use mathlib.Core.List.{List, []}
+use Prim.Native.Nat.{ℕ, _+_, _*_}
+use lib.Dec.{leb}
+use lib.ListN.{length, take, drop}
 use Rattle.rules.specs.Bytes.{little, u32At}
+use Rattle.tell.specs.Files.{startOf}
 
 -- word i of a header
 abbrev pub wordAt : List ℕ → ℕ → ℕ
 wordAt header i = u32At little header (4 * i)
 
--- a buffer before and after n bytes were asked for at its start
-pub record Filled (n : ℕ) (before after : List ℕ) (result : Bool) : Type 0 where
-  pub refused : length before < n → (after ≡ before) × (result ≡ false)
-  pub taken : result ≡ true → n ≤ length before
-  pub kept : drop n after ≡ drop n before
-  pub sized : length after ≡ length before
+abbrev pub pickData : Bool → List ℕ → List ℕ
+pickData true a = a
+pickData false a = []
+
+-- the n bytes after the tables of a held file, none where it has fewer
+unfoldable pub dataIn : List ℕ → ℕ → List ℕ
+dataIn file n = pickData (leb (startOf file 8 + n) (length file)) (take n (drop (startOf file 8) file))

@@ -5,29 +5,43 @@ mod run;
 mod show;
 mod stain;
 
-use input::CODE;
+ghost use Prim.Native.Nat.{_≤_};
+ghost use lib.ListN.{length};
 use input::COUNT;
 use input::DATA;
-use input::FUNC_INFO;
-use input::FUNCTIONS;
+use input::HEADER;
 use input::INSTRUCTIONS;
 use input::KIND;
-use input::LINE_INFO;
-use input::MAPS;
 use input::OUT;
 use input::OUT_FUNC_INFO;
 use input::OUT_LINE_INFO;
 use input::PLACES;
-use input::RELOCATIONS;
 use input::ROOT;
 use input::SIZE;
-use input::SYMBOLS;
-use input::fill;
+use input::data;
 use input::part;
+use input::read_case;
 use input::word;
 use libc::STDIN_FILENO;
 use libc::STDOUT_FILENO;
 use stain::stain;
+
+const MAGIC: u32 = 0x4B52_4142;
+
+// The room for a held tables file with a reader's data, for table 6, and for the outputs.
+const FILE: usize = 120_354;
+
+const TABLE_6: usize = 65_600;
+
+const IMAGE: usize = 33_000;
+
+const FUNCS: usize = 2_100;
+
+const LINES: usize = 66_000;
+
+const PLACE_BYTES: usize = 16;
+
+const UNTOUCHED: u8 = 0xEE;
 
 fn bad() -> bool {
     io::write_all(STDOUT_FILENO, b"bad case\n");
@@ -35,297 +49,159 @@ fn bad() -> bool {
 }
 
 // Whether the outputs that a case asks for are as long as the program has them.
-fn has_room(header: &[u8; 96]) -> bool {
+fn has_room(header: &[u8; HEADER]) -> bool {
     let most = if word(header, KIND) == 1 {
-        33000
+        IMAGE
     } else {
-        66000
+        LINES
     };
-    word(header, OUT) <= most
-        && word(header, OUT_FUNC_INFO) <= 2100
-        && word(header, OUT_LINE_INFO) <= 66000
-        && word(header, PLACES) <= 16
+    word(header, OUT) as usize <= most
+        && word(header, OUT_FUNC_INFO) as usize <= FUNCS
+        && word(header, OUT_LINE_INFO) as usize <= LINES
+        && word(header, PLACES) as usize <= PLACE_BYTES
 }
 
 // With the outputs cut to what the case asks for.
-fn link_into(
-    index: u64,
-    header: &[u8; 96],
-    code: &[u8],
-    symbols: &[u8],
-    functions: &[u8],
-    relocations: &[u8],
-    instructions: &[u8],
-    func_info: &[u8],
-    line_info: &[u8],
-    image: &mut [u8],
-    image_func_info: &mut [u8],
-    image_line_info: &mut [u8],
-    places: &mut [u8],
-) {
-    let n1 = part(header, CODE, code);
-    let n2 = part(header, SYMBOLS, symbols);
-    let n3 = part(header, FUNCTIONS, functions);
-    let n4 = part(header, RELOCATIONS, relocations);
-    let n6 = part(header, INSTRUCTIONS, instructions);
-    let n7 = part(header, FUNC_INFO, func_info);
-    let n8 = part(header, LINE_INFO, line_info);
-    run::link(
-        index,
-        &code[..n1],
-        &symbols[..n2],
-        &functions[..n3],
-        &relocations[..n4],
-        &instructions[..n6],
-        &func_info[..n7],
-        &line_info[..n8],
-        word(header, ROOT),
-        image,
-        image_func_info,
-        image_line_info,
-        places,
-    );
-}
-
 fn link(
     index: u64,
-    header: &[u8; 96],
-    code: &[u8],
-    symbols: &[u8],
-    functions: &[u8],
-    relocations: &[u8],
+    header: &[u8; HEADER],
+    file: &[u8],
     instructions: &[u8],
-    func_info: &[u8],
-    line_info: &[u8],
     image: &mut [u8],
-    image_func_info: &mut [u8],
-    image_line_info: &mut [u8],
-    places: &mut [u8],
+    funcs: &mut [u8],
+    lines: &mut [u8],
 ) {
-    let m1 = part(header, OUT, image);
-    let m2 = part(header, OUT_FUNC_INFO, image_func_info);
-    let m3 = part(header, OUT_LINE_INFO, image_line_info);
-    let p = part(header, PLACES, places);
-    link_into(
+    let mut places = [UNTOUCHED; PLACE_BYTES];
+    let n = part(header, INSTRUCTIONS, instructions);
+    let a = part(header, OUT, image);
+    let b = part(header, OUT_FUNC_INFO, funcs);
+    let c = part(header, OUT_LINE_INFO, lines);
+    let p = part(header, PLACES, &places);
+    run::link(
         index,
-        header,
-        code,
-        symbols,
-        functions,
-        relocations,
-        instructions,
-        func_info,
-        line_info,
-        &mut image[..m1],
-        &mut image_func_info[..m2],
-        &mut image_line_info[..m3],
+        file,
+        &instructions[..n],
+        word(header, ROOT),
+        &mut image[..a],
+        &mut funcs[..b],
+        &mut lines[..c],
         &mut places[..p],
     );
 }
 
-fn map_step(
-    index: u64,
-    header: &[u8; 96],
-    code: &[u8],
-    symbols: &[u8],
-    functions: &[u8],
-    relocations: &[u8],
-    maps: &[u8],
-    instructions: &mut [u8],
-    places: &mut [u8],
-) {
-    let n1 = part(header, CODE, code);
-    let n2 = part(header, SYMBOLS, symbols);
-    let n3 = part(header, FUNCTIONS, functions);
-    let n4 = part(header, RELOCATIONS, relocations);
-    let n5 = part(header, MAPS, maps);
-    let n6 = part(header, INSTRUCTIONS, instructions);
-    let p = part(header, PLACES, places);
-    run::map_step(
-        index,
-        &code[..n1],
-        &symbols[..n2],
-        &functions[..n3],
-        &relocations[..n4],
-        &maps[..n5],
-        &mut instructions[..n6],
-        &mut places[..p],
-    );
+fn map_step(index: u64, header: &[u8; HEADER], file: &[u8], instructions: &mut [u8]) {
+    let mut places = [UNTOUCHED; PLACE_BYTES];
+    let n = part(header, INSTRUCTIONS, instructions);
+    let p = part(header, PLACES, &places);
+    run::map_step(index, file, &mut instructions[..n], &mut places[..p]);
 }
 
 // The four kinds of the readers. False where the kind is none.
-fn reader(index: u64, header: &[u8; 96], data: &[u8], out: &mut [u8], places: &mut [u8]) -> bool {
+fn read(
+    index: u64,
+    header: &[u8; HEADER],
+    bytes: &[u8],
+    out: &mut [u8],
+    places: &mut [u8],
+) -> bool {
     let size = word(header, SIZE);
     let count = word(header, COUNT);
     let k = word(header, ROOT);
-    let n = part(header, DATA, data);
-    let m = part(header, OUT, out);
-    let p = part(header, PLACES, places);
     match word(header, KIND) {
-        3 => run::func_info(
-            index,
-            size,
-            count,
-            &data[..n],
-            &mut out[..m],
-            &mut places[..p],
-        ),
-        4 => run::line_info(
-            index,
-            size,
-            count,
-            &data[..n],
-            &mut out[..m],
-            &mut places[..p],
-        ),
-        5 => run::func_record(index, size, count, &data[..n], k, &mut places[..p]),
-        6 => run::line_record(index, size, count, &data[..n], k, &mut places[..p]),
+        3 => run::func_info(index, size, count, bytes, out, places),
+        4 => run::line_info(index, size, count, bytes, out, places),
+        5 => run::func_record(index, size, count, bytes, k, places),
+        6 => run::line_record(index, size, count, bytes, k, places),
         _ => return bad(),
     }
     ;
     true
 }
 
-// The tables of a case and the reader's data, from the input.
-fn fill_all(
-    header: &[u8; 96],
-    code: &mut [u8; 272],
-    symbols: &mut [u8; 24600],
-    functions: &mut [u8; 2100],
-    relocations: &mut [u8; 24600],
-    maps: &mut [u8; 1050],
-    instructions: &mut [u8; 65600],
-    func_info: &mut [u8; 2100],
-    line_info: &mut [u8; 65600],
-    data: &mut [u8; 66000],
-) -> bool {
-    fill(header, CODE, code)
-        && fill(header, SYMBOLS, symbols)
-        && fill(header, FUNCTIONS, functions)
-        && fill(header, RELOCATIONS, relocations)
-        && fill(header, MAPS, maps)
-        && fill(header, INSTRUCTIONS, instructions)
-        && fill(header, FUNC_INFO, func_info)
-        && fill(header, LINE_INFO, line_info)
-        && fill(header, DATA, data)
+fn reader(index: u64, header: &[u8; HEADER], file: &[u8], out: &mut [u8]) -> bool
+    requires { ⌜ 32 ≤ length (now file) ⌝ }
+{
+    let mut places = [UNTOUCHED; PLACE_BYTES];
+    let m = part(header, OUT, out);
+    let p = part(header, PLACES, &places);
+    read(
+        index,
+        header,
+        data(file, word(header, DATA) as usize),
+        &mut out[..m],
+        &mut places[..p],
+    )
 }
 
-// Other bytes than zero in every output, before a case.
-fn stain_all(
-    image: &mut [u8; 33000],
-    image_func_info: &mut [u8; 2100],
-    image_line_info: &mut [u8; 66000],
-) {
+// A case that was read, with other bytes than zero in every output.
+fn run_case(
+    index: u64,
+    header: &[u8; HEADER],
+    file: &[u8],
+    instructions: &mut [u8],
+    image: &mut [u8],
+    funcs: &mut [u8],
+    lines: &mut [u8],
+) -> bool
+    requires { ⌜ 32 ≤ length (now file) ⌝ }
+{
     stain(image);
-    stain(image_func_info);
-    stain(image_line_info);
+    stain(funcs);
+    stain(lines);
+    match word(header, KIND) {
+        1 => {
+            link(index, header, file, instructions, image, funcs, lines);
+            return true;
+        }
+        2 => {
+            map_step(index, header, file, instructions);
+            return true;
+        }
+        _ => {
+            return reader(index, header, file, lines);
+        }
+    }
 }
 
 // One case. False at the end of the input, and at a case that is cut short or does not fit.
 fn one_case(
     index: u64,
-    code: &mut [u8; 272],
-    symbols: &mut [u8; 24600],
-    functions: &mut [u8; 2100],
-    relocations: &mut [u8; 24600],
-    maps: &mut [u8; 1050],
-    instructions: &mut [u8; 65600],
-    func_info: &mut [u8; 2100],
-    line_info: &mut [u8; 65600],
-    data: &mut [u8; 66000],
-    image: &mut [u8; 33000],
-    image_func_info: &mut [u8; 2100],
-    image_line_info: &mut [u8; 66000],
+    file: &mut [u8; FILE],
+    instructions: &mut [u8; TABLE_6],
+    image: &mut [u8; IMAGE],
+    funcs: &mut [u8; FUNCS],
+    lines: &mut [u8; LINES],
 ) -> bool {
-    let mut header = [0u8; 96];
-    let mut places = [0xEEu8; 16];
+    let mut header = [0u8; HEADER];
     let got = io::read_full(STDIN_FILENO, &mut header);
     if got == 0 {
         return false;
     }
-    if got < 96 || word(&header, 0) != 0x4B52_4142 || !has_room(&header) {
+    if got < HEADER || word(&header, 0) != MAGIC || !has_room(&header) {
         return bad();
     }
-    if !fill_all(
-        &header,
-        code,
-        symbols,
-        functions,
-        relocations,
-        maps,
-        instructions,
-        func_info,
-        line_info,
-        data,
-    ) {
+    if !read_case(&header, file, instructions) {
         return bad();
     }
-    stain_all(image, image_func_info, image_line_info);
-    if word(&header, KIND) == 1 {
-        link(
-            index,
-            &header,
-            code,
-            symbols,
-            functions,
-            relocations,
-            instructions,
-            func_info,
-            line_info,
-            image,
-            image_func_info,
-            image_line_info,
-            &mut places,
-        );
-        return true;
-    }
-    if word(&header, KIND) == 2 {
-        map_step(
-            index,
-            &header,
-            code,
-            symbols,
-            functions,
-            relocations,
-            maps,
-            instructions,
-            &mut places,
-        );
-        return true;
-    }
-    reader(index, &header, data, image_line_info, &mut places)
+    run_case(index, &header, file, instructions, image, funcs, lines)
 }
 
 // A proved loop has to end, and nothing says that the input does. So the cases are counted, up to a number that no run reaches.
 fn main() {
-    let mut code = [0u8; 272];
-    let mut symbols = [0u8; 24600];
-    let mut functions = [0u8; 2100];
-    let mut relocations = [0u8; 24600];
-    let mut maps = [0u8; 1050];
-    let mut instructions = [0u8; 65600];
-    let mut func_info = [0u8; 2100];
-    let mut line_info = [0u8; 65600];
-    let mut data = [0u8; 66000];
-    let mut image = [0u8; 33000];
-    let mut image_func_info = [0u8; 2100];
-    let mut image_line_info = [0u8; 66000];
+    let mut file = [0u8; FILE];
+    let mut instructions = [0u8; TABLE_6];
+    let mut image = [0u8; IMAGE];
+    let mut funcs = [0u8; FUNCS];
+    let mut lines = [0u8; LINES];
     let mut index: u64 = 0;
     while index < u64::MAX
         && one_case(
             index,
-            &mut code,
-            &mut symbols,
-            &mut functions,
-            &mut relocations,
-            &mut maps,
+            &mut file,
             &mut instructions,
-            &mut func_info,
-            &mut line_info,
-            &mut data,
             &mut image,
-            &mut image_func_info,
-            &mut image_line_info,
+            &mut funcs,
+            &mut lines,
         )
     {
         index += 1;

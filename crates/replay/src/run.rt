@@ -2,12 +2,13 @@
 ghost use lib.ListN.{length};
 ghost use Rattle.rules.specs.declared.Table.the-variants.{FuncInfo, LineInfo};
 ghost use Rattle.rules.specs.Bytes.{little};
-ghost use Rattle.rules.specs.Rows.{linkOffer, mapStepOffer};
 ghost use Rattle.rules.specs.Entries.{linkEntry, mapEntry};
 ghost use Rattle.rules.specs.Readers.{readRecords, recordReply};
 ghost use Rattle.info.specs.Promises.{given};
-ghost use Rattle.linker.specs.Linker.{buffers, lentBy};
-ghost use Rattle.barkruffle.specs.Promises.{Told, LinkTold, MapTold, ReadTold};
+ghost use Rattle.rules.specs.Lent.{was, outputs, lentOutputs, lentBy};
+ghost use Rattle.answers.specs.Told.{Told};
+ghost use Rattle.steps.specs.Steps.{heldOffer, heldMaps};
+ghost use Rattle.barkruffle.specs.Promises.{LinkTold, MapTold, ReadTold};
 use crate::show;
 use barkruffle::barkruffle_func_info;
 use barkruffle::barkruffle_func_info_record_number;
@@ -17,32 +18,39 @@ use barkruffle::barkruffle_link;
 use barkruffle::barkruffle_relocate_maps;
 use info::func_info_record;
 use info::line_info_record;
+use tell::files;
+use tell::files::table;
 
 pub fn link(
     index: u64,
-    code: &[u8],
-    symbols: &[u8],
-    functions: &[u8],
-    relocations: &[u8],
+    file: &[u8],
     instructions: &[u8],
-    func_info: &[u8],
-    line_info: &[u8],
     root: u32,
     image: &mut [u8],
     image_func_info: &mut [u8],
     image_line_info: &mut [u8],
     places: &mut [u8],
 ) -> u32
-    ensures { λ r. ⌜ LinkTold (now (places .entry)) (now (places .exit)) (buffers (now (image .exit)) (now («image_func_info» .exit)) (now («image_line_info» .exit))) r (linkEntry little (linkOffer (now (code .entry)) (now (symbols .entry)) (now (functions .entry)) (now (relocations .entry)) (now (instructions .entry)) (now («func_info» .entry)) (now («line_info» .entry))) root (lentBy (buffers (now (image .entry)) (now («image_func_info» .entry)) (now («image_line_info» .entry))))) ⌝ }
+    ensures { λ r. ⌜ LinkTold
+        (was places)
+        (now (places .exit))
+        (outputs (image .exit) («image_func_info» .exit) («image_line_info» .exit))
+        r
+        (linkEntry
+        little
+        (heldOffer (was file) (was instructions))
+        root
+        (lentBy (lentOutputs image «image_func_info» «image_line_info»)))
+        ⌝ }
 {
     let number = barkruffle_link(
-        code,
-        symbols,
-        functions,
-        relocations,
+        table(file, files::CODE),
+        table(file, files::SYMBOLS),
+        table(file, files::FUNCTIONS),
+        table(file, files::RELOCATIONS),
         instructions,
-        func_info,
-        line_info,
+        table(file, files::FUNC_INFO),
+        table(file, files::LINE_INFO),
         root,
         image,
         image_func_info,
@@ -57,24 +65,21 @@ pub fn link(
     number
 }
 
-pub fn map_step(
-    index: u64,
-    code: &[u8],
-    symbols: &[u8],
-    functions: &[u8],
-    relocations: &[u8],
-    maps: &[u8],
-    instructions: &mut [u8],
-    places: &mut [u8],
-) -> u32
-    ensures { λ r. ⌜ MapTold (now (places .entry)) (now (places .exit)) (now (instructions .exit)) r (mapEntry little (mapStepOffer (now (code .entry)) (now (symbols .entry)) (now (functions .entry)) (now (relocations .entry)) (now (maps .entry)) (now (instructions .entry)))) ⌝ }
+pub fn map_step(index: u64, file: &[u8], instructions: &mut [u8], places: &mut [u8]) -> u32
+    ensures { λ r. ⌜ MapTold
+        (was places)
+        (now (places .exit))
+        (now (instructions .exit))
+        r
+        (mapEntry little (heldMaps (was file) (was instructions)))
+        ⌝ }
 {
     let number = barkruffle_relocate_maps(
-        code,
-        symbols,
-        functions,
-        relocations,
-        maps,
+        table(file, files::CODE),
+        table(file, files::SYMBOLS),
+        table(file, files::FUNCTIONS),
+        table(file, files::RELOCATIONS),
+        table(file, files::MAPS),
         instructions,
         places,
     );
@@ -92,7 +97,13 @@ pub fn func_info(
     out: &mut [u8],
     places: &mut [u8],
 ) -> u32
-    ensures { λ r. ⌜ ReadTold (now (places .entry)) (now (places .exit)) (now (out .exit)) r (readRecords little FuncInfo (given size count (now (bytes .entry))) (length (now (out .entry)))) ⌝ }
+    ensures { λ r. ⌜ ReadTold
+        (was places)
+        (now (places .exit))
+        (now (out .exit))
+        r
+        (readRecords little FuncInfo (given size count (was bytes)) (length (was out)))
+        ⌝ }
 {
     let number = barkruffle_func_info(size, count, bytes, out, places);
     show::answer(index, 3, number, places);
@@ -109,7 +120,13 @@ pub fn line_info(
     out: &mut [u8],
     places: &mut [u8],
 ) -> u32
-    ensures { λ r. ⌜ ReadTold (now (places .entry)) (now (places .exit)) (now (out .exit)) r (readRecords little LineInfo (given size count (now (bytes .entry))) (length (now (out .entry)))) ⌝ }
+    ensures { λ r. ⌜ ReadTold
+        (was places)
+        (now (places .exit))
+        (now (out .exit))
+        r
+        (readRecords little LineInfo (given size count (was bytes)) (length (was out)))
+        ⌝ }
 {
     let number = barkruffle_line_info(size, count, bytes, out, places);
     show::answer(index, 4, number, places);
@@ -126,7 +143,9 @@ pub fn func_record(
     k: u32,
     places: &mut [u8],
 ) -> u32
-    ensures { λ r. ⌜ Told (now (places .entry)) (now (places .exit)) r (recordReply little FuncInfo (given size count (now (bytes .entry))) k) ⌝ }
+    ensures { λ r. ⌜
+        Told (was places) (now (places .exit)) r (recordReply little FuncInfo (given size count (was bytes)) k)
+        ⌝ }
 {
     let number = barkruffle_func_info_record_number(size, count, bytes, k, places);
     show::answer(index, 5, number, places);
@@ -143,7 +162,9 @@ pub fn line_record(
     k: u32,
     places: &mut [u8],
 ) -> u32
-    ensures { λ r. ⌜ Told (now (places .entry)) (now (places .exit)) r (recordReply little LineInfo (given size count (now (bytes .entry))) k) ⌝ }
+    ensures { λ r. ⌜
+        Told (was places) (now (places .exit)) r (recordReply little LineInfo (given size count (was bytes)) k)
+        ⌝ }
 {
     let number = barkruffle_line_info_record_number(size, count, bytes, k, places);
     show::answer(index, 6, number, places);

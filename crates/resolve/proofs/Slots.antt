@@ -2,7 +2,7 @@
 -- Assumes nothing.
 use mathlib.Core.Path.{_≡_, refl, sym, ap, _∙_}
 use mathlib.Core.Bool.{Bool, true, false, _&&_}
-use mathlib.Core.List.{List, []}
+use mathlib.Core.List.{List}
 use mathlib.Core.Option.{Option}
 use Prim.Native.Nat.{ℕ, suc, _+_, _*_, _≤_, _<_}
 use native.Mathlib.Omega.{arith}
@@ -16,7 +16,7 @@ use Rattle.rules.specs.Object.{Insn, isCall, isBlank, isWideLoad, decide, meani
 use Rattle.rules.specs.Faithful.{slotAt}
 use Rattle.rules.specs.Bytes.{little, slotSize, slotIn, decoded}
 use Rattle.rules.specs.Tables.{Tables, Function, Relocation, rowOf, insnOf, namedOf, relocationAt, byRelocation, objectOf}
-use Rattle.rules.specs.Rows.{mostFunctionSlots, wholeRows, total, functionSection, functionSlots, functionOffset, functionRow, relocationRow, Offered, linkOffer, tablesOf}
+use Rattle.rules.specs.Rows.{mostRows, mostFunctionSlots, wholeRows, total, functionSection, functionSlots, functionOffset, functionRow, relocationRow, Offered, tablesOf}
 use Rattle.rules.specs.Lookups.{foundOf, relocationWith}
 use Rattle.rules.proofs.Searches.{read, part-inside, summed-bound}
 use Rattle.rules.proofs.Passed.{good-function, few-rows}
@@ -24,7 +24,7 @@ use Rattle.rules.proofs.Reading.{row-is, base-is, relocation-is}
 use Rattle.rules.proofs.Writing.{decoded-at}
 use Rattle.rows.proofs.Laws.{relocation-found}
 use Rattle.insn.specs.Wide.{wideLoadIn}
-use Rattle.resolve.specs.Means.{optionOf, tablesIn}
+use Rattle.resolve.specs.Means.{optionOf}
 use Rattle.resolve.specs.Resolves.{Within, Resolves}
 use Rattle.resolve.proofs.Targets.{option-found}
 
@@ -41,21 +41,26 @@ third true true x y e = e refl
 third true false x y e = refl
 third false b x y e = refl
 
-module _ {code symbols functions relocations instructions : List ℕ} {row first slot : ℕ} {rel : Found}
-    (r : Resolves code symbols functions relocations instructions row first slot rel) where
+module _ {o : Offered} {row first slot : ℕ} {rel : Found} (r : Resolves o row first slot rel) where
   abbrev tables : Tables
-  tables = tablesIn code symbols functions relocations instructions
+  tables = tablesOf little o
 
-  abbrev offered : Offered
-  offered = linkOffer code symbols functions relocations instructions [] []
+  abbrev functions : List ℕ
+  functions = o .functions
 
-  pub row-low : row < 64
+  abbrev instructions : List ℕ
+  instructions = o .instructions
+
+  abbrev relocations : List ℕ
+  relocations = o .relocations
+
+  pub row-low : row < mostRows Functions
   row-low = omega (arith, few-rows Functions functions (r .tables .functions), r .row-inside)
 
   pub slots-low : functionSlots functions row ≤ mostFunctionSlots
   slots-low = good-function functions (r .tables .functions) row (r .row-inside) .slots-high
 
-  pub first-low : first ≤ mostFunctionSlots * 64
+  pub first-low : first ≤ mostRows Functions * mostFunctionSlots
   first-low =
       omega (
         arith,
@@ -74,7 +79,7 @@ module _ {code symbols functions relocations instructions : List ℕ} {row first
   insn-at : (k : ℕ) → k < functionSlots functions row → insnOf tables row k ≡ slotIn little instructions (first + k)
   unfolding tablesOf
   insn-at k l =
-      ap (λ (n : ℕ). slotAt (decoded little instructions) (n + k)) (base-is little offered row (omega (arith, r .row-inside)) ∙ sym (r .first-is))
+      ap (λ (n : ℕ). slotAt (decoded little instructions) (n + k)) (base-is little o row (omega (arith, r .row-inside)) ∙ sym (r .first-is))
       ∙ decoded-at little instructions (first + k) (omega (arith, end-inside))
 
   pub wide-is : isWideLoad (objectOf tables) row slot ≡ wideLoadIn instructions (first + slot) (first + functionSlots functions row)
@@ -82,7 +87,7 @@ module _ {code symbols functions relocations instructions : List ℕ} {row first
   wide-is =
       let s : suc (first + slot) ≡ first + suc slot = omega arith in
       ap (λ (i : Insn). eqb (i .opcode) 0x18 && ltb (suc slot) (rowOf tables row .slots) && isBlank (insnOf tables row (suc slot))) (insn-at slot (r .slot-inside))
-      ∙ ap (λ (f : Function). eqb (slotIn little instructions (first + slot) .opcode) 0x18 && ltb (suc slot) (f .slots) && isBlank (insnOf tables row (suc slot))) (row-is little offered row (r .row-inside))
+      ∙ ap (λ (f : Function). eqb (slotIn little instructions (first + slot) .opcode) 0x18 && ltb (suc slot) (f .slots) && isBlank (insnOf tables row (suc slot))) (row-is little o row (r .row-inside))
       ∙ third (eqb (slotIn little instructions (first + slot) .opcode) 0x18) (ltb (suc slot) (functionSlots functions row)) _ _
       (λ t. ap isBlank (insn-at (suc slot) (ltb-true (suc slot) (functionSlots functions row) t) ∙ ap (slotIn little instructions) (sym s)))
       ∙ ap (λ (b : Bool). eqb (slotIn little instructions (first + slot) .opcode) 0x18 && b && isBlank (slotIn little instructions (suc (first + slot)))) (shifted first slot (functionSlots functions row))
@@ -100,10 +105,10 @@ module _ {code symbols functions relocations instructions : List ℕ} {row first
   named-is : namedOf tables row slot
       ≡ byRelocation tables (read (relocationRow relocations) (optionOf rel)) (functionRow functions row) slot (slotIn little instructions (first + slot))
   named-is =
-      ap (λ (f : Function). byRelocation tables (relocationAt tables f slot) f slot (insnOf tables row slot)) (row-is little offered row (r .row-inside))
+      ap (λ (f : Function). byRelocation tables (relocationAt tables f slot) f slot (insnOf tables row slot)) (row-is little o row (r .row-inside))
       ∙ ap (byRelocation tables (relocationAt tables (functionRow functions row) slot) (functionRow functions row) slot) (insn-at slot (r .slot-inside))
       ∙ ap (λ (o : Option Relocation). byRelocation tables o (functionRow functions row) slot (slotIn little instructions (first + slot)))
-      (relocation-is little offered (functionRow functions row) slot ∙ ap (read (relocationRow relocations)) rel-found)
+      (relocation-is little o (functionRow functions row) slot ∙ ap (read (relocationRow relocations)) rel-found)
 
   pub meaning-is : meaning (objectOf tables) row slot
       ≡ decide (isCall (slotIn little instructions (first + slot))) (wideLoadIn instructions (first + slot) (first + functionSlots functions row))

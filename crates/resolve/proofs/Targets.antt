@@ -13,12 +13,12 @@ use mir.Val.{toZ, ofZ, SFits}
 use mir.ValLaws.{toZ-ofZ}
 use Rattle.rules.specs.Object.{Insn, isCall, Named, nothing, unclear}
 use Rattle.rules.specs.Bytes.{little}
-use Rattle.rules.specs.Tables.{SymbolKind, other, section, functionAt, isCode, bySymbol, bySymbolRow, byRelocation, orMissing, slotsOn}
-use Rattle.rules.specs.Rows.{noneNumber, kindOf, orNone, Offered, linkOffer, tablesOf, functionSection, functionOffset, functionRow, relocationSymbol, relocationSize, relocationRow, symbolRow}
+use Rattle.rules.specs.Tables.{SymbolKind, other, section, functionAt, isCode, byCode, bySymbol, bySymbolRow, byRelocation, orMissing, slotsOn}
+use Rattle.rules.specs.Rows.{noneNumber, otherKind, textKind, kindOf, orNone, Offered, mapStepOffer, tablesOf, functionSection, functionOffset, functionRow, relocationSymbol, relocationSize, relocationRow, symbolRow}
 use Rattle.rules.specs.Lookups.{foundOf, functionWith, symbolWith, isCodeSection}
 use Rattle.rules.proofs.Searches.{read}
 use Rattle.rules.proofs.Reading.{code-is, symbol-is, function-is}
-use Rattle.resolve.specs.Means.{optionOf, tablesIn, bySize}
+use Rattle.resolve.specs.Means.{optionOf, targets}
 use Rattle.resolve.proofs.Laws.{symbol-row-alike}
 
 -- a target as its bits are passed on
@@ -42,64 +42,68 @@ abbrev kindOr : Bool → SymbolKind
 kindOr b = cond b other section
 
 module _ (code functions : List ℕ) where
-  at-is : (home : ℕ) (address : ℤ) → functionAt (tablesIn code [] functions [] []) home address ≡ orMissing (functionWith functions home address)
-  at-is home address = ap orMissing (function-is little (linkOffer code [] functions [] [] [] []) home address)
+  pub at-is : (home : ℕ) (address : ℤ) → functionAt (targets code functions) home address ≡ orMissing (functionWith functions home address)
+  at-is home address = ap orMissing (function-is little (mapStepOffer code [] functions [] [] []) home address)
 
   module _ (kind home address size : ℕ) (immediate : ℤ) where
     abbrev named : Named
-    named = bySymbol (tablesIn code [] functions [] []) (kindOf kind) (orNone home) address size immediate
+    named = bySymbol (targets code functions) (kindOf kind) (orNone home) address size immediate
 
-    no-text : (kind ≡ 1 → ⊥) → kindOf kind ≡ kindOr (eqb kind 0)
-    no-text n = rw (ne-eqb kind 1 n)
+    no-text : (kind ≡ textKind → ⊥) → kindOf kind ≡ kindOr (eqb kind otherKind)
+    no-text n = rw (ne-eqb kind textKind n)
 
-    pub nowhere-text : home ≡ noneNumber → kind ≡ 1 → named ≡ unclear 8
+    pub nowhere-text : home ≡ noneNumber → kind ≡ textKind → named ≡ unclear 8
     nowhere-text e k = rw (e, k)
 
-    pub nowhere-else : home ≡ noneNumber → (kind ≡ 1 → ⊥) → named ≡ nothing
-    nowhere-else e k = rw (e, no-text k) (go (eqb kind 0))
+    pub nowhere-else : home ≡ noneNumber → (kind ≡ textKind → ⊥) → named ≡ nothing
+    nowhere-else e k = rw (e, no-text k) (go (eqb kind otherKind))
       where
-        go : (b : Bool) → bySymbol (tablesIn code [] functions [] []) (kindOr b) (orNone noneNumber) address size immediate ≡ nothing
+        go : (b : Bool) → bySymbol (targets code functions) (kindOr b) (orNone noneNumber) address size immediate ≡ nothing
         go true = refl
         go false = refl
 
     module _ (somewhere : home ≡ noneNumber → ⊥) where
-      pub text-at : kind ≡ 1 → named ≡ orMissing (functionWith functions home (pos address))
+      pub text-at : kind ≡ textKind → named ≡ orMissing (functionWith functions home (pos address))
       text-at k = rw (k, ne-eqb home noneNumber somewhere) (at-is home (pos address))
 
-      is-code : {b : Bool} → isCodeSection code home ≡ b → isCode (tablesIn code [] functions [] []) home ≡ b
-      is-code e = code-is little (linkOffer code [] functions [] [] [] []) home ∙ e
+      is-code : {b : Bool} → isCodeSection code home ≡ b → isCode (targets code functions) home ≡ b
+      is-code e = code-is little (mapStepOffer code [] functions [] [] []) home ∙ e
 
-      pub no-code : (kind ≡ 1 → ⊥) → isCodeSection code home ≡ false → named ≡ nothing
-      no-code k e = rw (no-text k) (go (eqb kind 0))
+      pub no-code : (kind ≡ textKind → ⊥) → isCodeSection code home ≡ false → named ≡ nothing
+      no-code k e = rw (no-text k) (go (eqb kind otherKind))
         where
-          go : (b : Bool) → bySymbol (tablesIn code [] functions [] []) (kindOr b) (orNone home) address size immediate ≡ nothing
+          go : (b : Bool) → bySymbol (targets code functions) (kindOr b) (orNone home) address size immediate ≡ nothing
           go true = rw (ne-eqb home noneNumber somewhere, is-code e)
           go false = rw (ne-eqb home noneNumber somewhere, is-code e)
 
-      pub other-code : kind ≡ 0 → isCodeSection code home ≡ true → named ≡ unclear 8
+      pub other-code : kind ≡ otherKind → isCodeSection code home ≡ true → named ≡ unclear 8
       other-code k e = rw (k, ne-eqb home noneNumber somewhere, is-code e)
 
-      pub section-code : (kind ≡ 1 → ⊥) → (kind ≡ 0 → ⊥) → isCodeSection code home ≡ true → named ≡ bySize functions home address size immediate
-      section-code k z e =
-          rw (no-text k, ne-eqb kind 0 z, ne-eqb home noneNumber somewhere, is-code e, at-is home (pos address +ℤ slotsOn immediate), at-is home (pos address +ℤ immediate))
+      pub section-code : (kind ≡ textKind → ⊥) → (kind ≡ otherKind → ⊥) → isCodeSection code home ≡ true
+          → named ≡ byCode (targets [] functions) section (some home) address size immediate
+      unfolding tablesOf
+      section-code k z e = rw (no-text k, ne-eqb kind otherKind z, ne-eqb home noneNumber somewhere, is-code e)
 
 -- what a slot names, by its relocation
-module _ (code symbols functions relocations instructions : List ℕ) (row slot : ℕ) (i : Insn) where
-  abbrev offered : Offered
-  offered = linkOffer code symbols functions relocations instructions [] []
-
+module _ (o : Offered) (row slot : ℕ) (i : Insn) where
   abbrev byRow : Option ℕ → Named
-  byRow k = byRelocation (tablesOf little offered) (read (relocationRow relocations) k) (functionRow functions row) slot i
+  byRow k = byRelocation (tablesOf little o) (read (relocationRow (o .relocations)) k) (functionRow (o .functions) row) slot i
 
   pub own-call : isCall i ≡ true
-      → byRow none ≡ orMissing (functionWith functions (functionSection functions row) (pos (functionOffset functions row + 8 * slot) +ℤ slotsOn (i .immediate)))
-  own-call e = rw e (ap orMissing (function-is little offered (functionSection functions row) (pos (functionOffset functions row + 8 * slot) +ℤ slotsOn (i .immediate))))
+      → byRow none
+      ≡ orMissing (functionWith (o .functions) (functionSection (o .functions) row) (pos (functionOffset (o .functions) row + 8 * slot) +ℤ slotsOn (i .immediate)))
+  own-call e =
+      rw e (ap orMissing (function-is little o (functionSection (o .functions) row) (pos (functionOffset (o .functions) row + 8 * slot) +ℤ slotsOn (i .immediate))))
 
   pub not-call : isCall i ≡ false → byRow none ≡ nothing
   not-call e = rw e
 
   pub related : (k : ℕ)
-      → byRow (some k) ≡ bySymbolRow (tablesIn code [] functions [] []) (read (symbolRow symbols) (symbolWith symbols (relocationSymbol relocations k))) (relocationSize relocations k) (i .immediate)
+      → byRow (some k)
+      ≡ bySymbolRow (targets (o .code) (o .functions)) (read (symbolRow (o .symbols)) (symbolWith (o .symbols) (relocationSymbol (o .relocations) k)))
+      (relocationSize (o .relocations) k) (i .immediate)
   related k =
-      ap (λ s. bySymbolRow (tablesOf little offered) s (relocationSize relocations k) (i .immediate)) (symbol-is little offered (relocationSymbol relocations k))
-      ∙ symbol-row-alike code symbols functions relocations instructions [] [] (read (symbolRow symbols) (symbolWith symbols (relocationSymbol relocations k))) (relocationSize relocations k) (i .immediate)
+      let index = relocationSymbol (o .relocations) k in
+      let size = relocationSize (o .relocations) k in
+      ap (λ s. bySymbolRow (tablesOf little o) s size (i .immediate)) (symbol-is little o index)
+      ∙ symbol-row-alike o (read (symbolRow (o .symbols)) (symbolWith (o .symbols) index)) size (i .immediate)

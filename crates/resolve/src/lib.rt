@@ -1,10 +1,10 @@
 // The judgement of a slot: what it names by section and address, and what the link makes of that.
+use answers::refusal;
 use insn::byte_target;
 use insn::call_target;
 use insn::immediate;
 use insn::insn_is_call;
 use insn::is_wide_load;
-use insn::offset_at;
 use insn::place;
 use insn::slot_at;
 use rows::fields::function_offset;
@@ -18,28 +18,30 @@ use rows::fields::symbol_section;
 use rows::find::find_function;
 use rows::find::find_symbol;
 use rows::find::is_code;
-use rules::Answer;
+use rules::ByteOffset;
+use rules::Cause;
 use rules::Found;
+use rules::Refusal;
 use rules::Slot;
+use rules::limits::NONE;
+use rules::limits::OTHER;
+use rules::limits::TEXT;
 ghost use mathlib.Core.Path.{_≡_};
 ghost use mathlib.Core.List.{[]};
+ghost use mathlib.Core.Option.{some};
 ghost use Prim.Native.Nat.{_+_, _*_, _<_, _≤_};
 ghost use lib.IntN.{pos, _+ℤ_};
 ghost use Rattle.rules.specs.declared.Table.the-variants.{Functions};
 ghost use Rattle.rules.specs.Bytes.{little, slotIn};
+ghost use Rattle.rules.specs.Lent.{was, offeredCode, lentCode};
 ghost use Rattle.rules.specs.Object as object;
-ghost use Rattle.rules.specs.Tables.{orMissing, slotsOn, bySymbol, bySymbolRow, byRelocation, objectOf};
-ghost use Rattle.rules.specs.Rows.{wholeRows, kindOf, orNone, functionSection, functionOffset, functionRow, relocationSymbol, relocationSize, relocationRow, symbolRow, mostAddress};
+ghost use Rattle.rules.specs.Tables.{section, orMissing, slotsOn, byCode, bySymbol, bySymbolRow, byRelocation, objectOf};
+ghost use Rattle.rules.specs.Rows.{wholeRows, mostAddress, kindOf, orNone, tablesOf};
+ghost use Rattle.rules.specs.Rows.{functionSection, functionOffset, functionRow, relocationSymbol, relocationSize, relocationRow, symbolRow};
 ghost use Rattle.rules.specs.Lookups.{Sound, functionWith, symbolWith};
 ghost use Rattle.rules.proofs.Searches.{read};
-ghost use Rattle.resolve.specs.Means.{namedOf, Means, optionOf, tablesIn, bySize};
+ghost use Rattle.resolve.specs.Means.{namedOf, Means, optionOf, targets};
 ghost use Rattle.resolve.specs.Resolves.{Symbolic, Related, Names, Resolves};
-
-const NO_SECTION: u32 = 0xFFFF_FFFF;
-
-const OTHER: u8 = 0;
-
-const TEXT: u8 = 1;
 
 // What a slot names. Numbers are document 01's.
 pub enum Named {
@@ -57,12 +59,12 @@ pub enum Named {
 pub enum Meaning {
     Copied,
     Points(usize, bool),
-    Refused(Answer),
+    Refused(Refusal),
 }
 
 pub fn by_address(functions: &[u8], home: u32, target: i64) -> Named
     requires { ⌜ Sound Functions (now functions) ⌝ }
-    ensures { λ r. ⌜ namedOf r ≡ orMissing (functionWith (now (functions .entry)) home target) ⌝ }
+    ensures { λ r. ⌜ namedOf r ≡ orMissing (functionWith (was functions) home target) ⌝ }
 {
     let found = find_function(functions, home, target);
     match found {
@@ -72,16 +74,15 @@ pub fn by_address(functions: &[u8], home: u32, target: i64) -> Named
 }
 
 // "Section with size 32 targets address + 8 × (immediate + 1), with size 64 address + immediate; anything else 8".
-pub fn by_section(functions: &[u8], section: u32, address: u64, size: u8, imm: i32) -> Named
-    requires { ⌜ Sound Functions (now functions) × (address ≤ mostAddress) ⌝ }
-    ensures { λ r. ⌜ namedOf r ≡ bySize (now (functions .entry)) section address size imm ⌝ }
+pub fn by_section(functions: &[u8], home: u32, address: ByteOffset, size: u8, imm: i32) -> Named
+    requires { ⌜ Sound Functions (now functions) × (address .0 ≤ mostAddress) ⌝ }
+    ensures { λ r. ⌜ namedOf r ≡ byCode (targets [] (was functions)) section (some home) (address .0) size imm ⌝ }
 {
-    let base = offset_at(address);
     if size == 32 {
-        return by_address(functions, section, call_target(base, imm));
+        return by_address(functions, home, call_target(address, imm));
     }
     if size == 64 {
-        return by_address(functions, section, byte_target(base, imm));
+        return by_address(functions, home, byte_target(address, imm));
     }
     Named::UnknownForm
 }
@@ -90,38 +91,40 @@ pub fn by_symbol(
     code: &[u8],
     functions: &[u8],
     kind: u8,
-    section: u32,
-    address: u64,
+    home: u32,
+    address: ByteOffset,
     size: u8,
     imm: i32,
 ) -> Named
-    requires { ⌜ Symbolic (now code) (now functions) address ⌝ }
-    ensures { λ r. ⌜ namedOf r ≡ bySymbol (tablesIn (now (code .entry)) [] (now (functions .entry)) [] []) (kindOf kind) (orNone section) address size imm ⌝ }
+    requires { ⌜ Symbolic (now code) (now functions) (address .0) ⌝ }
+    ensures { λ r. ⌜ namedOf r ≡ bySymbol (targets (was code) (was functions)) (kindOf kind) (orNone home) (address .0) size imm ⌝ }
 {
-    if section == NO_SECTION {
+    if home == NONE {
         if kind == TEXT {
             return Named::UnknownForm;
         }
         return Named::Nothing;
     }
     if kind == TEXT {
-        return by_address(functions, section, address as i64);
+        let target = address.0;
+        return by_address(functions, home, target as i64);
     }
-    if !is_code(code, section) {
+    if !is_code(code, home) {
         return Named::Nothing;
     }
     if kind == OTHER {
         return Named::UnknownForm;
     }
-    by_section(functions, section, address, size, imm)
+    by_section(functions, home, address, size, imm)
 }
 
 // A call without a relocation: its own section, from its own place.
 pub fn by_place(functions: &[u8], row: usize, slot: u32, imm: i32) -> Named
     requires { ⌜ Sound Functions (now functions) × (row < wholeRows Functions (now functions)) ⌝ }
-    ensures { λ r. ⌜ namedOf r ≡ orMissing (functionWith (now (functions .entry)) (functionSection (now (functions .entry)) row) (pos (functionOffset (now (functions .entry)) row + 8 * slot) +ℤ slotsOn imm)) ⌝ }
+    ensures { λ r. ⌜ namedOf r ≡ orMissing (functionWith (was functions) (functionSection (was functions) row)
+        (pos (functionOffset (was functions) row + 8 * slot) +ℤ slotsOn imm)) ⌝ }
 {
-    let start = offset_at(function_offset(functions, row));
+    let start = function_offset(functions, row);
     let here = place(start, slot_at(slot));
     by_address(
         functions,
@@ -140,7 +143,9 @@ pub fn by_row(
     imm: i32,
 ) -> Named
     requires { ⌜ Related (now code) (now symbols) (now functions) (now relocations) k ⌝ }
-    ensures { λ r. ⌜ namedOf r ≡ bySymbolRow (tablesIn (now (code .entry)) [] (now (functions .entry)) [] []) (read (symbolRow (now (symbols .entry))) (symbolWith (now (symbols .entry)) (relocationSymbol (now (relocations .entry)) k))) (relocationSize (now (relocations .entry)) k) imm ⌝ }
+    ensures { λ r. ⌜ namedOf r ≡ bySymbolRow (targets (was code) (was functions))
+        (read (symbolRow (was symbols)) (symbolWith (was symbols) (relocationSymbol (was relocations) k)))
+        (relocationSize (was relocations) k) imm ⌝ }
 {
     let found = find_symbol(symbols, relocation_symbol(relocations, k));
     match found {
@@ -168,8 +173,10 @@ pub fn by_relocation(
     at: Slot,
     rel: Found,
 ) -> Named
-    requires { ⌜ Names (now code) (now symbols) (now functions) (now relocations) (now instructions) row (at .0) rel ⌝ }
-    ensures { λ r. ⌜ namedOf r ≡ byRelocation (tablesIn (now (code .entry)) (now (symbols .entry)) (now (functions .entry)) (now (relocations .entry)) (now (instructions .entry))) (read (relocationRow (now (relocations .entry))) (optionOf rel)) (functionRow (now (functions .entry)) row) slot (slotIn little (now (instructions .entry)) (at .0)) ⌝ }
+    requires { ⌜ Names (offeredCode code symbols functions relocations instructions) row (at .0) rel ⌝ }
+    ensures { λ r. ⌜ namedOf r ≡ byRelocation (tablesOf little (lentCode code symbols functions relocations instructions))
+        (read (relocationRow (was relocations)) (optionOf rel)) (functionRow (was functions) row) slot
+        (slotIn little (was instructions) (at .0)) ⌝ }
 {
     match rel {
         Found::Nothing => {
@@ -199,7 +206,7 @@ pub fn decide(is_call: bool, is_wide: bool, named: Named, row: u32, slot: u32) -
             if !is_call {
                 return Meaning::Copied;
             }
-            return Meaning::Refused(Answer::NoCode(row, slot));
+            return Meaning::Refused(refusal(Cause::NoCode, row, slot));
         }
         Named::Function(callee) => {
             if is_call {
@@ -208,23 +215,23 @@ pub fn decide(is_call: bool, is_wide: bool, named: Named, row: u32, slot: u32) -
             if is_wide {
                 return Meaning::Points(callee, true);
             }
-            return Meaning::Refused(Answer::NotWideLoad(row, slot));
+            return Meaning::Refused(refusal(Cause::NotWideLoad, row, slot));
         }
         Named::Missing => {
-            let unknown = Answer::UnknownFunction(row, slot);
+            let unknown = refusal(Cause::UnknownFunction, row, slot);
             if is_call {
                 return Meaning::Refused(unknown);
             }
             if is_wide {
                 return Meaning::Refused(unknown);
             }
-            return Meaning::Refused(Answer::NotWideLoad(row, slot));
+            return Meaning::Refused(refusal(Cause::NotWideLoad, row, slot));
         }
         Named::UnknownSymbol => {
-            return Meaning::Refused(Answer::UnknownSymbol(row, slot));
+            return Meaning::Refused(refusal(Cause::UnknownSymbol, row, slot));
         }
         Named::UnknownForm => {
-            return Meaning::Refused(Answer::UnknownForm(row, slot));
+            return Meaning::Refused(refusal(Cause::UnknownForm, row, slot));
         }
     }
 }
@@ -240,11 +247,13 @@ pub fn resolve(
     slot: u32,
     rel: Found,
 ) -> Meaning
-    requires { ⌜ Resolves (now code) (now symbols) (now functions) (now relocations) (now instructions) row first slot rel ⌝ }
-    ensures { λ r. ⌜ Means row slot r (object.meaning (objectOf (tablesIn (now (code .entry)) (now (symbols .entry)) (now (functions .entry)) (now (relocations .entry)) (now (instructions .entry)))) row slot) ⌝ }
+    requires { ⌜ Resolves (offeredCode code symbols functions relocations instructions) row first slot rel ⌝ }
+    ensures { λ r. ⌜ Means row slot r
+        (object.meaning (objectOf (tablesOf little (lentCode code symbols functions relocations instructions))) row slot) ⌝ }
 {
     let at = slot_at(first + slot);
-    let end = slot_at(first + function_slots(functions, row));
+    let slots = function_slots(functions, row);
+    let end = slot_at(first + slots.0);
     let named = by_relocation(
         code,
         symbols,

@@ -1,9 +1,4 @@
 // The first row of a checked table that has the numbers asked for.
-use crate::fields::CODE_SIZE;
-use crate::fields::FUNCTION_SIZE;
-use crate::fields::MAP_SIZE;
-use crate::fields::RELOCATION_SIZE;
-use crate::fields::SYMBOL_SIZE;
 use crate::fields::code_section;
 use crate::fields::function_address;
 use crate::fields::function_section;
@@ -12,42 +7,42 @@ use crate::fields::map_symbol;
 use crate::fields::relocation_offset;
 use crate::fields::relocation_section;
 use crate::fields::symbol_index;
+use crate::order::is_before;
+use crate::order::same_place;
+use rules::ByteOffset;
 use rules::Found;
+use rules::limits::CODE_SIZE;
+use rules::limits::FUNCTION_SIZE;
+use rules::limits::MAP_SIZE;
+use rules::limits::NONE;
+use rules::limits::RELOCATION_SIZE;
+use rules::limits::SYMBOL_SIZE;
 ghost use mathlib.Core.Path.{_≡_};
-ghost use mathlib.Core.Bool.{_&&_};
 ghost use Prim.Native.Nat.{_+_, _*_, _≤_};
-ghost use lib.Dec.{eqb};
 ghost use lib.ListN.{length};
 ghost use Rattle.rules.specs.declared.Table.the-variants.{Code, Symbols, Functions, Relocations, Maps};
-ghost use Rattle.rules.specs.Rows.{rowSize, wholeRows, below};
-ghost use Rattle.rules.specs.Lookups.{Sound, foundOf, isCodeSection, symbolWith, functionWith, relocationWith, relocationsBefore, mapWithSymbol, mapOfSection};
-ghost use Rattle.rows.specs.Matches.{functionMatches, relocationMatches, relocationIsBefore, mapSymbolMatches, mapSectionMatches};
-
-const NO_SYMBOL: u32 = 0xFFFF_FFFF;
-
-fn same_place(section: u32, at: u64, home: u32, offset: u64) -> bool
-    ensures { λ r. ⌜ r ≡ (eqb section home && eqb at offset) ⌝ }
-{
-    if section != home {
-        return false;
-    }
-    at == offset
-}
+ghost use Rattle.rules.specs.Rows.{rowSize, wholeRows};
+ghost use Rattle.rules.specs.Lent.{was};
+ghost use Rattle.rules.specs.Lookups.{Sound, foundOf};
+ghost use Rattle.rules.specs.Lookups.{isCodeSection, symbolWith, functionWith, relocationWith, relocationsBefore, mapWithSymbol, mapOfSection};
+ghost use Rattle.rows.specs.Matches.{functionMatches, relocationMatches, relocationIsBefore};
+ghost use Rattle.rows.specs.Matches.{mapSymbolMatches, mapSectionMatches};
 
 fn is_function(t: &[u8], k: usize, home: u32, address: i64) -> bool
     requires { ⌜ rowSize Functions * k + rowSize Functions ≤ length (now t) ⌝ }
-    ensures { λ r. ⌜ r ≡ functionMatches (now (t .entry)) home address k ⌝ }
+    ensures { λ r. ⌜ r ≡ functionMatches (was t) home address k ⌝ }
 {
     let section = function_section(t, k);
     if address < 0 {
         return false;
     }
-    same_place(section, function_address(t, k), home, address as u64)
+    let target = ByteOffset(address as u64);
+    same_place(section, function_address(t, k), home, target)
 }
 
-fn is_relocation(t: &[u8], k: usize, home: u32, offset: u64) -> bool
+pub fn is_relocation(t: &[u8], k: usize, home: u32, offset: ByteOffset) -> bool
     requires { ⌜ rowSize Relocations * k + rowSize Relocations ≤ length (now t) ⌝ }
-    ensures { λ r. ⌜ r ≡ relocationMatches (now (t .entry)) home offset k ⌝ }
+    ensures { λ r. ⌜ r ≡ relocationMatches (was t) home (offset .0) k ⌝ }
 {
     same_place(
         relocation_section(t, k),
@@ -57,16 +52,9 @@ fn is_relocation(t: &[u8], k: usize, home: u32, offset: u64) -> bool
     )
 }
 
-// (section, at) before (home, offset).
-fn is_before(section: u32, at: u64, home: u32, offset: u64) -> bool
-    ensures { λ r. ⌜ r ≡ below section at home offset ⌝ }
-{
-    (section < home) | ((section == home) & (at < offset))
-}
-
-fn is_relocation_before(t: &[u8], k: usize, home: u32, offset: u64) -> bool
+pub fn is_relocation_before(t: &[u8], k: usize, home: u32, offset: ByteOffset) -> bool
     requires { ⌜ rowSize Relocations * k + rowSize Relocations ≤ length (now t) ⌝ }
-    ensures { λ r. ⌜ r ≡ relocationIsBefore (now (t .entry)) home offset k ⌝ }
+    ensures { λ r. ⌜ r ≡ relocationIsBefore (was t) home (offset .0) k ⌝ }
 {
     is_before(
         relocation_section(t, k),
@@ -78,10 +66,10 @@ fn is_relocation_before(t: &[u8], k: usize, home: u32, offset: u64) -> bool
 
 fn is_map_with(t: &[u8], k: usize, symbol: u32) -> bool
     requires { ⌜ rowSize Maps * k + rowSize Maps ≤ length (now t) ⌝ }
-    ensures { λ r. ⌜ r ≡ mapSymbolMatches (now (t .entry)) symbol k ⌝ }
+    ensures { λ r. ⌜ r ≡ mapSymbolMatches (was t) symbol k ⌝ }
 {
     let own = map_symbol(t, k);
-    if own == NO_SYMBOL {
+    if own == NONE {
         return false;
     }
     own == symbol
@@ -89,18 +77,18 @@ fn is_map_with(t: &[u8], k: usize, symbol: u32) -> bool
 
 fn is_map_of(t: &[u8], k: usize, home: u32) -> bool
     requires { ⌜ rowSize Maps * k + rowSize Maps ≤ length (now t) ⌝ }
-    ensures { λ r. ⌜ r ≡ mapSectionMatches (now (t .entry)) home k ⌝ }
+    ensures { λ r. ⌜ r ≡ mapSectionMatches (was t) home k ⌝ }
 {
     let own = map_symbol(t, k);
     if map_section(t, k) != home {
         return false;
     }
-    own == NO_SYMBOL
+    own == NONE
 }
 
 pub fn is_code(t: &[u8], home: u32) -> bool
     requires { ⌜ Sound Code (now t) ⌝ }
-    ensures { λ r. ⌜ r ≡ isCodeSection (now (t .entry)) home ⌝ }
+    ensures { λ r. ⌜ r ≡ isCodeSection (was t) home ⌝ }
 {
     let n = t.len() / CODE_SIZE;
     let mut k = 0;
@@ -115,7 +103,7 @@ pub fn is_code(t: &[u8], home: u32) -> bool
 
 pub fn find_symbol(t: &[u8], index: u32) -> Found
     requires { ⌜ Sound Symbols (now t) ⌝ }
-    ensures { λ r. ⌜ r ≡ foundOf (symbolWith (now (t .entry)) index) ⌝ }
+    ensures { λ r. ⌜ r ≡ foundOf (symbolWith (was t) index) ⌝ }
 {
     let n = t.len() / SYMBOL_SIZE;
     let mut k = 0;
@@ -130,7 +118,7 @@ pub fn find_symbol(t: &[u8], index: u32) -> Found
 
 pub fn find_function(t: &[u8], home: u32, address: i64) -> Found
     requires { ⌜ Sound Functions (now t) ⌝ }
-    ensures { λ r. ⌜ r ≡ foundOf (functionWith (now (t .entry)) home address) ⌝ }
+    ensures { λ r. ⌜ r ≡ foundOf (functionWith (was t) home address) ⌝ }
 {
     let n = t.len() / FUNCTION_SIZE;
     let mut k = 0;
@@ -143,9 +131,9 @@ pub fn find_function(t: &[u8], home: u32, address: i64) -> Found
     Found::Nothing
 }
 
-pub fn find_relocation(t: &[u8], home: u32, offset: u64) -> Found
+pub fn find_relocation(t: &[u8], home: u32, offset: ByteOffset) -> Found
     requires { ⌜ Sound Relocations (now t) ⌝ }
-    ensures { λ r. ⌜ r ≡ foundOf (relocationWith (now (t .entry)) home offset) ⌝ }
+    ensures { λ r. ⌜ r ≡ foundOf (relocationWith (was t) home (offset .0)) ⌝ }
 {
     let n = t.len() / RELOCATION_SIZE;
     let mut k = 0;
@@ -159,9 +147,9 @@ pub fn find_relocation(t: &[u8], home: u32, offset: u64) -> Found
 }
 
 // How many relocations stand before (home, offset), by halving.
-pub fn relocations_before(t: &[u8], home: u32, offset: u64) -> usize
+pub fn relocations_before(t: &[u8], home: u32, offset: ByteOffset) -> usize
     requires { ⌜ Sound Relocations (now t) ⌝ }
-    ensures { λ r. ⌜ (r ≡ relocationsBefore (now (t .entry)) home offset) × (r ≤ wholeRows Relocations (now (t .entry))) ⌝ }
+    ensures { λ r. ⌜ (r ≡ relocationsBefore (was t) home (offset .0)) × (r ≤ wholeRows Relocations (was t)) ⌝ }
 {
     let mut low = 0;
     let mut high = t.len() / RELOCATION_SIZE;
@@ -178,7 +166,7 @@ pub fn relocations_before(t: &[u8], home: u32, offset: u64) -> usize
 
 pub fn find_map_symbol(t: &[u8], symbol: u32) -> Found
     requires { ⌜ Sound Maps (now t) ⌝ }
-    ensures { λ r. ⌜ r ≡ foundOf (mapWithSymbol (now (t .entry)) symbol) ⌝ }
+    ensures { λ r. ⌜ r ≡ foundOf (mapWithSymbol (was t) symbol) ⌝ }
 {
     let n = t.len() / MAP_SIZE;
     let mut k = 0;
@@ -193,7 +181,7 @@ pub fn find_map_symbol(t: &[u8], symbol: u32) -> Found
 
 pub fn find_map_section(t: &[u8], home: u32) -> Found
     requires { ⌜ Sound Maps (now t) ⌝ }
-    ensures { λ r. ⌜ r ≡ foundOf (mapOfSection (now (t .entry)) home) ⌝ }
+    ensures { λ r. ⌜ r ≡ foundOf (mapOfSection (was t) home) ⌝ }
 {
     let n = t.len() / MAP_SIZE;
     let mut k = 0;

@@ -19,25 +19,25 @@ use Rattle.rules.specs.Link.{State, Refusal, refusal, Outcome, linked, r
 use Rattle.rules.specs.Walk.{Walk, standing, SourcePlace, place, sourceWalk, imageWalk}
 use Rattle.rules.specs.Together.{Together, both-stand, SamePlace, KeepsPath}
 use Rattle.rules.specs.Bytes.{Order, Fits, half16, half32, decode, decoded, encoded, padded}
-use Rattle.rules.specs.Tables.{SymbolKind, other, text, section, Tables, FunctionRecord, LineRecord, orMissing, slotsOn, rowOf, functionRecordsOf, linesOf, base, insnOf, rowAt, functionAt, bySymbol, bySymbolRow, byRelocation, objectOf}
+use Rattle.rules.specs.Tables.{SymbolKind, other, text, section, Tables, FunctionRecord, LineRecord, orMissing, slotsOn, rowOf, functionRecordsOf, linesOf, base, insnOf, rowAt, functionAt, bySymbol, bySymbolRow, byRelocation, objectOf, refersToCode}
 use Rattle.rules.specs.Records.{Room, imageFunctions, imageLines, roomFor, strayLine, thenStray, admits, rootAdmits, linkStep}
 use Rattle.rules.specs.Answers.{Reply, reply}
-use Rattle.rules.specs.Rows.{Offered, tablesOf, linkRefusal, orDone, mostImageSlots}
+use Rattle.rules.specs.Rows.{Offered, tablesOf, linkRefusal, mostImageSlots}
 use Rattle.rules.specs.Entries.{funcInfoBytes, lineInfoBytes, Outputs, roomIn, LinkResult, acceptedLink, byOutcome, unlessLinkRefused, linkEntry}
-use Rattle.rules.specs.Demand3.{count, usedImage, usedFuncInfo, usedLineInfo, Calls, refersToCode, FunctionReference, Refers, PathKept}
+use Rattle.rules.specs.Demand3.{count, usedImage, usedFuncInfo, usedLineInfo, Calls, FunctionReference, Refers, PathKept}
 use Rattle.rules.proofs.Path.{keeps-path, stands-in}
 use Rattle.rules.proofs.Slots.{meaning-fits, call-opcode, wide-opcode}
 use Rattle.rules.proofs.Slots as Slots
 use Rattle.rules.proofs.Linking.{link-faithful}
 use Rattle.rules.proofs.Tiles.{tile-fits, tile-covers}
-use Rattle.rules.proofs.Limits.{within-room}
+use Rattle.rules.proofs.Admitted.{within-room}
 use Rattle.rules.proofs.Writing.{decoded-at, decoded-length, displacement-fits}
 use Rattle.rules.proofs.Rounds.{Bytes, Plain, AllPlain, all-plain, decode-plain, decoded-encoded, encoded-length}
 use Rattle.rules.proofs.Merging.{func-bytes-length, line-bytes-length}
 use Rattle.rules.proofs.Ending.{Finished}
 use Rattle.rules.proofs.Lookups.{tables-finish}
 use Rattle.rules.proofs.Numbered.{Numbered, step-numbered}
-use Rattle.rules.proofs.Refusing.{link-passed}
+use Rattle.rules.proofs.Refusing.{link-number}
 
 pub linking-keeps-path : (object : Object) (admits : ℕ → State → Option Refusal) (rootRefusal : Option Refusal) (root : ℕ) (final : State)
     → link object admits rootRefusal root ≡ linked final → KeepsPath object root (final .image) (piece root 0 ∷ final .placed)
@@ -193,7 +193,7 @@ unfolding referring
 referring-plain i start here p l m = record { opcode = p .opcode; destination = p .destination; source = omega arith; offset = p .offset; immediate = displacement-fits start here l m }
 
 module _ (object : Object) (root : ℕ) (image : List Insn) (pieces : List Piece) (faithful : Faithful object root image pieces)
-    (sources : (row slot : ℕ) → Plain (object .insn row slot)) (small : length image ≤ 65536) where
+    (sources : (row slot : ℕ) → Plain (object .insn row slot)) (small : length image < half32) where
   linked-plain : (row slot here : ℕ) (i : Insn) (m : Meaning) → here < half32 → LinkOf pieces (object .insn row slot) here i m → Plain i
   linked-plain row slot here i copied l k = subst Plain (sym k) (sources row slot)
   linked-plain row slot here i (call callee) l k =
@@ -310,7 +310,4 @@ module _ (order : Order) (o : Offered) (root : ℕ) (lent : Outputs) (are : Byte
 
       go : (x : Option Reply) → linkRefusal o root ≡ x → unlessLinkRefused order o root lent x .reply .number ≡ 0 → PathKept order o root (unlessLinkRefused order o root lent x)
       go none e z = by (linkStep (tablesOf order o) (roomIn lent) root) refl (step-finishes order o lent root) (step-numbered (tablesOf order o) (roomIn lent) root) z
-      go (some r) e z =
-          let passed : linkRefusal o root ≡ none = link-passed o root (ap (λ x. orDone x .number) e ∙ z) in
-          let y : _≡_ {A = ℕ} 0 1 = cc in
-          absurd (omega arith)
+      go (some r) e z = absurd (link-number o r root e z)

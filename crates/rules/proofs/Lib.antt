@@ -12,6 +12,7 @@ pub mod Demand3
 pub mod Writing
 pub mod Rounds
 pub mod Searches
+pub mod Halving
 pub mod Passed
 pub mod Refusing
 pub mod Reading
@@ -19,8 +20,9 @@ pub mod Merging
 pub mod Lookups
 pub mod Numbered
 pub mod Invariant
-pub mod Limits
+pub mod Admitted
 pub mod Starts
+pub mod InPlace
 pub mod MapsInPlace
 pub mod MapsApart
 pub mod MapsCode

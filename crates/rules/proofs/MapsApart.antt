@@ -10,7 +10,7 @@ use native.Mathlib.Omega.{arith}
 use lib.Dec.{eqb, ltb, leb}
 use lib.ListN.{length, getD}
 use borrow.Author.Tests.{eqb-true, ltb-true, leb-true}
-use Rattle.rules.specs.Tables.{Function, Relocation, Tables, Earlier, Rising, noFunction, before, rowOf, base}
+use Rattle.rules.specs.Tables.{Function, Relocation, Tables, Earlier, RowsRise, noFunction, before, rowOf, base}
 use Rattle.rules.specs.Maps.{Task, task, only, inside, onGrid, slotFor, taskSlot, tasks, place}
 use Rattle.rules.proofs.MapsInPlace.{Live, Apart}
 
@@ -76,7 +76,7 @@ only-found test x (y ∷ ys) m = go (test y) refl m (λ m. only-found test x ys 
         either (inr m) = later (rest m)
     go false e m rest = later (rest m)
 
-pub rising-distinct : (home : ℕ) (rs : List Relocation) → Rising rs → Distinct (only (λ r. eqb (r .home) home) rs)
+pub rising-distinct : (home : ℕ) (rs : List Relocation) → RowsRise rs → Distinct (only (λ r. eqb (r .home) home) rs)
 rising-distinct home [] rising = tt
 rising-distinct home (r ∷ rs) rising = go (eqb (r .home) home) refl (rising-distinct home rs (rising .1))
   where

@@ -7,8 +7,9 @@ use lib.Dec.{eqb}
 use lib.ListN.{length}
 use Rattle.rules.specs.Object.{Insn}
 use Rattle.rules.specs.Tables.{Relocation, Tables, rowOf}
-use Rattle.rules.specs.Maps.{Task, only, counted, judge, allTasks, firstRefusal, applied, rewrite, rewriteAll, rewriteInPlace, appliedInPlace, mapped, unlessRefused, mapStep, mapStepInPlace}
-use Rattle.rules.specs.Tables.{Rising}
+use Rattle.rules.specs.Maps.{Task, only, counted, judge, allTasks, firstRefusal, applied, rewrite, rewriteAll, mapped, unlessRefused, mapStep}
+use Rattle.rules.proofs.InPlace.{rewriteInPlace, appliedInPlace, mapStepInPlace}
+use Rattle.rules.specs.Tables.{RowsRise}
 use Rattle.rules.proofs.MapsInPlace.{Apart, Kept, kept-refl, judge-same, kept-next, in-place}
 use Rattle.rules.proofs.MapsApart.{rising-distinct, apart-all}
 
@@ -22,7 +23,7 @@ counted-in-place tables orig (t ∷ ts) now apart kept =
     (counted-in-place tables orig ts (rewrite tables (judge tables orig t) t now) (apart .1) (kept-next tables orig t ts now apart kept (judge tables orig t) refl)))
 
 -- valid tables: (section, offset) strictly rising
-pub map-step-in-place : (tables : Tables) → Rising (tables .relocations) → mapStepInPlace tables ≡ mapStep tables
+pub map-step-in-place : (tables : Tables) → RowsRise (tables .relocations) → mapStepInPlace tables ≡ mapStep tables
 unfolding mapStep mapStepInPlace
 map-step-in-place tables rising =
     let ts = allTasks tables in

@@ -19,7 +19,8 @@ use Rattle.rules.specs.Object.{Insn, isZero, isCall, isBlank}
 use Rattle.rules.specs.Faithful.{blank, slotAt}
 use Rattle.rules.specs.Bytes.{withImmediate, withSource}
 use Rattle.rules.specs.Tables.{SymbolKind, other, text, section, Symbol, MapRow, Tables, rowOf, base, isCode}
-use Rattle.rules.specs.Maps.{Task, Change, Verdict, skipped, refused, applies, fits32, inside, onGrid, mapFor, byData, byMap, byKind, byHome, bySymbol, slotIn, isWide, symbolOf, taskSlot, judge, at, changed, place, rewrite, rewriteAll, rewriteInPlace}
+use Rattle.rules.specs.Maps.{Task, Change, Verdict, skipped, refused, applies, fits32, inside, onGrid, mapFor, byData, byMap, byKind, byHome, bySymbol, slotIn, isWide, symbolOf, taskSlot, judge, at, changed, place, rewrite, rewriteAll}
+use Rattle.rules.proofs.InPlace.{rewriteInPlace}
 
 -- a slot rewritten, and the others
 pub at-other : (here k : ℕ) (f : Insn → Insn) (image : List Insn) → k ≢ here → slotAt (at here f image) k ≡ slotAt image k

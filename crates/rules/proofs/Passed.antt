@@ -1,19 +1,21 @@
 -- What a table that neither 1 nor 2 refuses is: whole rows, each good, keys rising.
 -- Assumes nothing.
 use mathlib.Core.Path.{_≡_, refl, sym, ap, _∙_, subst}
-use mathlib.Core.Logic.{_⊎_, inl, inr}
+use mathlib.Core.Logic.{_⊎_, inl, inr, ⊎-elim}
 use mathlib.Core.Bool.{Bool, true, false, cond, not, _&&_, _||_}
 use mathlib.Core.Option.{Option, none, some}
-use mathlib.Core.List.{List, [], _∷_}
+use mathlib.Core.List.{List, [], _∷_, List·Memᴰ, List·Memᴰ·cases-cons, List·Memᴰ·not-nil}
 use Prim.Native.Nat.{ℕ, zero, suc, _+_, _-_, _*_, _/_, _%_, _≤_, _<_}
 use native.Mathlib.Omega.{arith}
-use borrow.Author.Tests.{eqb-true, eqb-false, ne-eqb, leb-true, ltb-true, ltb-false, not-true, not-false}
+use borrow.Author.Tests.{eqb-true, eqb-false, eq-eqb, ne-eqb, leb-true, ltb-true, ltb-false, lt-ltb, le-ltb, not-true, not-false}
 use lib.Dec.{eqb, ltb, leb}
 use lib.ListN.{length}
 use Rattle.rules.specs.declared.Table.{Table}
 use Rattle.rules.specs.declared.Table.the-variants.{Code, Symbols, Functions, Relocations, Maps, Instructions, FuncInfo, LineInfo}
-use Rattle.rules.specs.Rows.{rowSize, mostRows, mostSection, mostAddress, mostFunctionSlots, noneNumber, wholeRows, isPartial, countedRows, isTooMany, isGood, orPartial, firstFrom, firstBroken, rises, below, risesPair, isSection, isSectionOrNone, isAddress, zeroFrom, sameMap, anyFrom, codeSection, symbolIndex, symbolSection, symbolAddress, symbolKind, functionSection, functionSlots, functionAddress, functionOffset, relocationSection, relocationSymbol, relocationOffset, mapSection, mapSymbol, mapHasData}
-use Rattle.rules.specs.Lookups.{Sound, Rising, RisingPair, Before}
+use Rattle.rules.specs.Rows.{rowSize, mostRows, mostSection, mostAddress, mostFunctionSlots, noneNumber, sectionKind, withData, wholeRows, isPartial, countedRows, isTooMany, isGood, orPartial, firstFrom, firstBroken, rises, below, risesPair, isSection, isSectionOrNone, isAddress, zeroFrom, sameMap, anyFrom, codeSection, symbolIndex, symbolSection, symbolAddress, symbolKind, functionSection, functionSlots, functionAddress, functionOffset, relocationSection, relocationSymbol, relocationOffset, mapSection, mapSymbol, mapHasData, relocationRow}
+use Rattle.rules.specs.Lookups.{Sound, Rising, RisingPair}
+use Rattle.rules.specs.Link.{run}
+use Rattle.rules.specs.Tables.{Relocation, Before, Earlier, RowsRise}
 use Rattle.rules.proofs.Searches.{nothing-passes, rising-near, rising-pair-near}
 
 -- ---- tests joined
@@ -56,6 +58,9 @@ at-most : (p : Bool) (n most : ℕ) → ltb most (cond p (suc n) n) ≡ false �
 at-most true n most e = let l = ltb-false most (suc n) e in omega arith
 at-most false n most e = ltb-false most n e
 
+pub few-whole : (table : Table) (t : List ℕ) → isTooMany table t ≡ false → wholeRows table t ≤ mostRows table
+few-whole table t e = at-most (isPartial table t) (wholeRows table t) (mostRows table) e
+
 module _ (table : Table) (t : List ℕ) (sound : Sound table t) where
   split : Parts (firstFrom (λ k. not (isGood table t k)) 0 (wholeRows table t)) (isPartial table t)
   unfolding firstBroken
@@ -65,7 +70,7 @@ module _ (table : Table) (t : List ℕ) (sound : Sound table t) where
   whole = of-size table t (whole-by (rowSize table) t (split .no-part))
 
   pub few-rows : wholeRows table t ≤ mostRows table
-  few-rows = at-most (isPartial table t) (wholeRows table t) (mostRows table) (sound .few)
+  few-rows = few-whole table t (sound .few)
 
   pub row-good : (k : ℕ) → k < wholeRows table t → isGood table t k ≡ true
   row-good k l = not-false (isGood table t k) (nothing-passes (λ k. not (isGood table t k)) 0 (wholeRows table t) (split .all-good) k (omega arith) (omega arith))
@@ -77,12 +82,16 @@ rises-near key j e =
     let q : eqb (suc j) 0 ≡ false = ne-eqb (suc j) 0 (λ (z : suc j ≡ 0). omega arith) in
     rw p at (ltb-true (key (suc j - 1)) (key (suc j)) (or-right (eqb (suc j) 0) (ltb (key (suc j - 1)) (key (suc j))) e q))
 
-below-before : (a b c d : ℕ) → below a b c d ≡ true → Before a b c d
+pub below-before : (a b c d : ℕ) → below a b c d ≡ true → Before a b c d
 below-before a b c d e = go (ltb a c) refl e
   where
     go : (x : Bool) → ltb a c ≡ x → (x || (eqb a c && ltb b d)) ≡ true → Before a b c d
     go true l e = inl (ltb-true a c l)
     go false l e = inr (eqb-true a c (and-left (eqb a c) (ltb b d) e), ltb-true b d (and-right (eqb a c) (ltb b d) e))
+
+pub before-below : (a b c d : ℕ) → Before a b c d → below a b c d ≡ true
+before-below a b c d (inl l) = rw (lt-ltb a c l)
+before-below a b c d (inr (e, l)) = let g : c ≤ a = omega arith in rw (le-ltb a c g, eq-eqb a c e, lt-ltb b d l)
 
 pair-near : (u v : ℕ → ℕ) (j : ℕ) → risesPair u v (suc j) ≡ true → Before (u j) (v j) (u (suc j)) (v (suc j))
 pair-near u v j e =
@@ -100,7 +109,7 @@ module _ (t : List ℕ) (sound : Sound Code t) where
 pub record GoodSymbol (t : List ℕ) (k : ℕ) : Type 0 where
   pub section : isSectionOrNone (symbolSection t k) ≡ true
   pub address : symbolAddress t k ≤ mostAddress
-  pub kind : symbolKind t k ≤ 2
+  pub kind : symbolKind t k ≤ sectionKind
   pub rising : rises (symbolIndex t) k ≡ true
 
 module _ (t : List ℕ) (sound : Sound Symbols t) where
@@ -110,11 +119,11 @@ module _ (t : List ℕ) (sound : Sound Symbols t) where
       let e₁ = and-right (not (eqb (symbolIndex t k) noneNumber)) _ (row-good Symbols t sound k l) in
       let e₂ = and-right (isSectionOrNone (symbolSection t k)) _ e₁ in
       let e₃ = and-right (isAddress (symbolAddress t k)) _ e₂ in
-      let e₄ = and-right (leb (symbolKind t k) 2) _ e₃ in
+      let e₄ = and-right (leb (symbolKind t k) sectionKind) _ e₃ in
       record {
         section = and-left (isSectionOrNone (symbolSection t k)) _ e₁;
         address = leb-true _ _ (and-left (isAddress (symbolAddress t k)) _ e₂);
-        kind = leb-true _ _ (and-left (leb (symbolKind t k) 2) _ e₃);
+        kind = leb-true _ _ (and-left (leb (symbolKind t k) sectionKind) _ e₃);
         rising = and-right (zeroFrom t (rowSize Symbols * k + 17) 7) _ e₄;
       }
 
@@ -177,10 +186,26 @@ module _ (t : List ℕ) (sound : Sound Relocations t) where
   pub relocations-rise : RisingPair (relocationSection t) (relocationOffset t) (wholeRows Relocations t)
   relocations-rise = rising-pair-near (relocationSection t) (relocationOffset t) (wholeRows Relocations t) (λ j l. pair-near (relocationSection t) (relocationOffset t) j (good-relocation (suc j) l .rising))
 
+  earlier : (k from n : ℕ) → k < from → from + n ≤ wholeRows Relocations t → (q : Relocation) → List·Memᴰ q (run (relocationRow t) from n) → Earlier (relocationRow t k) q
+  unfolding RisingPair
+  earlier k from zero l h q m = absurd (List·Memᴰ·not-nil m)
+  earlier k from (suc n) l h q m =
+      ⊎-elim (λ (e : q ≡ relocationRow t from). rw e (relocations-rise k from l (omega arith)))
+      (λ (later : List·Memᴰ q (run (relocationRow t) (suc from) n)). earlier k (suc from) n (omega arith) (omega arith) q later)
+      (List·Memᴰ·cases-cons m)
+
+  rise-from : (from n : ℕ) → from + n ≤ wholeRows Relocations t → RowsRise (run (relocationRow t) from n)
+  rise-from from zero h = tt
+  rise-from from (suc n) h = (earlier from (suc from) n (omega arith) (omega arith), rise-from (suc from) n (omega arith))
+
+  -- as a list
+  pub rows-rise : RowsRise (run (relocationRow t) 0 (wholeRows Relocations t))
+  rows-rise = rise-from 0 (wholeRows Relocations t) (omega arith)
+
 -- ---- table 5
 pub record GoodMap (t : List ℕ) (k : ℕ) : Type 0 where
   pub section : mapSection t k ≤ mostSection
-  pub hasData : mapHasData t k ≤ 1
+  pub hasData : mapHasData t k ≤ withData
   pub single : anyFrom (λ j. sameMap t j k) 0 k ≡ false
 
 module _ (t : List ℕ) (sound : Sound Maps t) where
@@ -189,9 +214,9 @@ module _ (t : List ℕ) (sound : Sound Maps t) where
   good-map k l =
       let e₀ = row-good Maps t sound k l in
       let e₁ = and-right (isSection (mapSection t k)) _ e₀ in
-      let e₂ = and-right (leb (mapHasData t k) 1) _ e₁ in
+      let e₂ = and-right (leb (mapHasData t k) withData) _ e₁ in
       record {
         section = leb-true _ _ (and-left (isSection (mapSection t k)) _ e₀);
-        hasData = leb-true _ _ (and-left (leb (mapHasData t k) 1) _ e₁);
+        hasData = leb-true _ _ (and-left (leb (mapHasData t k) withData) _ e₁);
         single = not-true _ (and-right (zeroFrom t (rowSize Maps * k + 13) 3) _ e₂);
       }

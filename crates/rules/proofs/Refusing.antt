@@ -1,6 +1,6 @@
--- A check that says done has refused nothing, and what that gives: every table sound, the totals right, the root a row.
+-- What a check refuses has a number that is not 0; and what passing gives: every table sound, the totals right, the root a row.
 -- Assumes nothing.
-use mathlib.Core.Path.{_≡_, refl, sym, ap, _∙_}
+use mathlib.Core.Path.{_≡_, refl, sym, ap, _∙_, subst}
 use mathlib.Core.Bool.{Bool, true, false, cond}
 use mathlib.Core.Option.{Option, none, some}
 use mathlib.Core.List.{List, [], _∷_, List·Memᴰ, List·Memᴰ·head, List·Memᴰ·tail, List·Memᴰ·cases-cons, List·Memᴰ·not-nil}
@@ -13,7 +13,7 @@ use lib.ListN.{length}
 use Rattle.rules.specs.declared.Table.{Table}
 use Rattle.rules.specs.declared.Table.the-variants.{Code, Symbols, Functions, Relocations, Maps, Instructions, FuncInfo, LineInfo}
 use Rattle.rules.specs.Answers.{Reply, reply}
-use Rattle.rules.specs.Rows.{rowSize, tableNumber, wholeRows, isTooMany, Offered, bytesOf, mapStepTables, linkTables, total, tooMany, wrongTotal, brokenIn, orBroken, broken, orElse, orDone, noRoot, mapStepRefusal, linkRefusal}
+use Rattle.rules.specs.Rows.{rowSize, tableNumber, wholeRows, isTooMany, Offered, bytesOf, mapStepTables, linkTables, total, tooMany, wrongTotal, brokenIn, orBroken, broken, orElse, noRoot, mapStepRefusal, linkRefusal}
 use Rattle.rules.specs.Lookups.{Sound, Checked, MapChecked, LinkChecked}
 
 -- a refusal's number is not 0
@@ -60,27 +60,17 @@ link-refuses o root =
     either-refuses (tooMany o linkTables) (orElse (broken o linkTables) (noRoot o root)) (too-many-refuses o linkTables)
     (either-refuses (broken o linkTables) (noRoot o root) (broken-refuses o linkTables) (root-refuses o root))
 
-done-passed : (r : Option Reply) → Refuses r → orDone r .number ≡ 0 → r ≡ none
-done-passed none n e = refl
-done-passed (some r) n e = absurd (n e)
+-- the number of what refuses is not 0
+module _ (o : Offered) (r : Reply) where
+  of-some : (x : Option Reply) → Refuses x → x ≡ some r → r .number ≢ 0
+  of-some none n e = let z : _≡_ {A = ℕ} 0 1 = cc in absurd (omega arith)
+  of-some (some s) n e = let same : s ≡ r = cc in subst (λ (x : Reply). x .number ≢ 0) same n
 
-refused-is : (r : Option Reply) → orDone r .number ≢ 0 → r ≡ some (orDone r)
-refused-is none n = absurd (n refl)
-refused-is (some r) n = refl
+  pub map-number : mapStepRefusal o ≡ some r → r .number ≢ 0
+  map-number e = of-some (mapStepRefusal o) (map-refuses o) e
 
-module _ (o : Offered) where
-  -- number 0: nothing refused. Any other: that refusal
-  pub map-passed : orDone (mapStepRefusal o) .number ≡ 0 → mapStepRefusal o ≡ none
-  map-passed e = done-passed (mapStepRefusal o) (map-refuses o) e
-
-  pub map-refused : orDone (mapStepRefusal o) .number ≢ 0 → mapStepRefusal o ≡ some (orDone (mapStepRefusal o))
-  map-refused n = refused-is (mapStepRefusal o) n
-
-  pub link-passed : (root : ℕ) → orDone (linkRefusal o root) .number ≡ 0 → linkRefusal o root ≡ none
-  link-passed root e = done-passed (linkRefusal o root) (link-refuses o root) e
-
-  pub link-refused : (root : ℕ) → orDone (linkRefusal o root) .number ≢ 0 → linkRefusal o root ≡ some (orDone (linkRefusal o root))
-  link-refused root n = refused-is (linkRefusal o root) n
+  pub link-number : (root : ℕ) → linkRefusal o root ≡ some r → r .number ≢ 0
+  link-number root e = of-some (linkRefusal o root) (link-refuses o root) e
 
 -- ---- what passing gives
 or-none : (a b : Option Reply) → orElse a b ≡ none → (a ≡ none) × (b ≡ none)

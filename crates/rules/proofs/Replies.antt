@@ -1,54 +1,97 @@
--- A reply comes from one answer only: a promise through `replyOf` fixes the answer.
+-- A reply comes from one answer only: a promise through `replyOf` fixes the answer, and one through `refusedReply` the refusal.
 -- Assumes nothing.
 use mathlib.Core.Path.{_≡_, refl, sym, ap, _∙_}
-use mathlib.Core.Bool.{cond}
+use mathlib.Core.Logic.{_≢_}
+use mathlib.Core.Bool.{false, cond}
 use mathlib.Core.List.{List}
 use Prim.Native.Nat.{ℕ}
+use borrow.Author.Tests.{eqb-false}
 use lib.Dec.{eqb}
 use lib.ListN.{getD}
+use Rattle.rules.specs.declared.Places.{Places}
+use Rattle.rules.specs.declared.Cause.{Cause}
+use Rattle.rules.specs.declared.Cause.the-variants.{TooManyRows, BrokenRow, UnknownSymbol, InvalidRelocationOffset, SectionNotFound, NotWideLoad, ValueOutside, UnknownForm, NoCode, UnknownFunction, NoRoom, LineOutside, NoRoot, BrokenInfo}
+use Rattle.rules.specs.declared.Refusal.{Refusal}
 use Rattle.rules.specs.declared.Answer.{Answer}
-use Rattle.rules.specs.declared.Answer.the-variants.{Done, TooManyRows, BrokenRow, UnknownSymbol, InvalidRelocationOffset, SectionNotFound, NotWideLoad, ValueOutside, UnknownForm, NoCode, UnknownFunction, NoRoom, LineOutside, NoRoot, BrokenInfo}
-use Rattle.rules.specs.Answers.{Reply, replyOf}
+use Rattle.rules.specs.declared.Answer.the-variants.{Done, Refused}
+use Rattle.rules.specs.Answers.{Reply, numberOf, refusedReply, replyOf}
 
--- by its number, with the places as they stand
-chosen : ℕ → ℕ → ℕ → ℕ → Answer
-chosen n a b c =
-    cond (eqb n 0) (Done a b c)
-    (cond (eqb n 1) (TooManyRows a)
-    (cond (eqb n 2) (BrokenRow a b)
-    (cond (eqb n 3) (UnknownSymbol a b)
-    (cond (eqb n 4) (InvalidRelocationOffset a b)
-    (cond (eqb n 5) (SectionNotFound a b)
-    (cond (eqb n 6) (NotWideLoad a b)
-    (cond (eqb n 7) (ValueOutside a b)
-    (cond (eqb n 8) (UnknownForm a b)
-    (cond (eqb n 9) (NoCode a b)
-    (cond (eqb n 10) (UnknownFunction a b)
-    (cond (eqb n 11) (NoRoom a)
-    (cond (eqb n 12) (LineOutside a b)
+-- the cause of a number
+causeOf : ℕ → Cause
+causeOf n =
+    cond (eqb n 1) TooManyRows
+    (cond (eqb n 2) BrokenRow
+    (cond (eqb n 3) UnknownSymbol
+    (cond (eqb n 4) InvalidRelocationOffset
+    (cond (eqb n 5) SectionNotFound
+    (cond (eqb n 6) NotWideLoad
+    (cond (eqb n 7) ValueOutside
+    (cond (eqb n 8) UnknownForm
+    (cond (eqb n 9) NoCode
+    (cond (eqb n 10) UnknownFunction
+    (cond (eqb n 11) NoRoom
+    (cond (eqb n 12) LineOutside
     (cond (eqb n 13) NoRoot
-    BrokenInfo)))))))))))))
+    BrokenInfo))))))))))))
 
-answered : Reply → Answer
-answered r = chosen (r .number) (getD (r .places) 0 0) (getD (r .places) 1 0) (getD (r .places) 2 0)
+cause-back : (c : Cause) → causeOf (numberOf c) ≡ c
+unfolding causeOf
+cause-back TooManyRows = refl
+cause-back BrokenRow = refl
+cause-back UnknownSymbol = refl
+cause-back InvalidRelocationOffset = refl
+cause-back SectionNotFound = refl
+cause-back NotWideLoad = refl
+cause-back ValueOutside = refl
+cause-back UnknownForm = refl
+cause-back NoCode = refl
+cause-back UnknownFunction = refl
+cause-back NoRoom = refl
+cause-back LineOutside = refl
+cause-back NoRoot = refl
+cause-back BrokenInfo = refl
 
-back : (a : Answer) → answered (replyOf a) ≡ a
-unfolding answered chosen
-back (Done a b c) = refl
-back (TooManyRows a) = refl
-back (BrokenRow a b) = refl
-back (UnknownSymbol a b) = refl
-back (InvalidRelocationOffset a b) = refl
-back (SectionNotFound a b) = refl
-back (NotWideLoad a b) = refl
-back (ValueOutside a b) = refl
-back (UnknownForm a b) = refl
-back (NoCode a b) = refl
-back (UnknownFunction a b) = refl
-back (NoRoom a) = refl
-back (LineOutside a b) = refl
-back NoRoot = refl
-back BrokenInfo = refl
+placesIn : Reply → Places
+placesIn r = record { 0 = getD (r .places) 0 0; 1 = getD (r .places) 1 0; 2 = getD (r .places) 2 0 }
+
+refusalOf : Reply → Refusal
+refusalOf r = record { cause = causeOf (r .number); places = placesIn r }
+
+back : (r : Refusal) → refusalOf (refusedReply r) ≡ r
+unfolding refusalOf placesIn
+back r = ap (λ (c : Cause). record { cause = c; places = r .places }) (cause-back (r .cause))
+
+pub one-refusal : (r s : Refusal) → refusedReply r ≡ refusedReply s → r ≡ s
+one-refusal r s e = sym (back r) ∙ ap refusalOf e ∙ back s
+
+-- no refusal has the number 0
+not-zero : (c : Cause) → eqb (numberOf c) 0 ≡ false
+not-zero TooManyRows = refl
+not-zero BrokenRow = refl
+not-zero UnknownSymbol = refl
+not-zero InvalidRelocationOffset = refl
+not-zero SectionNotFound = refl
+not-zero NotWideLoad = refl
+not-zero ValueOutside = refl
+not-zero UnknownForm = refl
+not-zero NoCode = refl
+not-zero UnknownFunction = refl
+not-zero NoRoom = refl
+not-zero LineOutside = refl
+not-zero NoRoot = refl
+not-zero BrokenInfo = refl
+
+pub refuses : (r : Refusal) → refusedReply r .number ≢ 0
+refuses r = eqb-false (numberOf (r .cause)) 0 (not-zero (r .cause))
+
+answerOf : Reply → Answer
+answerOf r = cond (eqb (r .number) 0) (Done (placesIn r)) (Refused (refusalOf r))
+
+answer-back : (a : Answer) → answerOf (replyOf a) ≡ a
+unfolding answerOf placesIn
+answer-back (Done p) = refl
+answer-back (Refused r) =
+    ap (λ b. cond b (Done (placesIn (refusedReply r))) (Refused (refusalOf (refusedReply r)))) (not-zero (r .cause)) ∙ ap Refused (back r)
 
 pub one-answer : (a b : Answer) → replyOf a ≡ replyOf b → a ≡ b
-one-answer a b e = sym (back a) ∙ ap answered e ∙ back b
+one-answer a b e = sym (answer-back a) ∙ ap answerOf e ∙ answer-back b

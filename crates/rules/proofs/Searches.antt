@@ -12,9 +12,9 @@ use native.Mathlib.Numerals.{add-one}
 use lib.Dec.{eqb, ltb, leb}
 use lib.ListN.{length, getD}
 use Rattle.rules.specs.Link.{run}
-use Rattle.rules.specs.Tables.{first, firstRow, before, Function}
+use Rattle.rules.specs.Tables.{first, firstRow, before, Function, Before}
 use Rattle.rules.specs.Rows.{firstFrom, summed, anyFrom}
-use Rattle.rules.specs.Lookups.{Rising, RisingPair, Before}
+use Rattle.rules.specs.Lookups.{Rising, RisingPair}
 
 -- ---- a search for the first row that passes, k of n rows looked at
 module _ (test : ℕ → Bool) (k n : ℕ) where
@@ -79,6 +79,17 @@ module _ (test : ℕ → Bool) where
           let same : from ≡ k = cc in
           record { low = omega arith; high = omega arith; passes = ap test (sym same) ∙ t }
       go false t e later = let h = later e in record { low = omega (arith, h .low); high = omega (arith, h .high); passes = h .passes }
+
+  -- the rows before the first that passes do not pass
+  pub earlier-fail : (from n k : ℕ) → firstFrom test from n ≡ some k → (j : ℕ) → from ≤ j → j < k → test j ≡ false
+  earlier-fail from zero k e j l m = let z : _≡_ {A = ℕ} 0 1 = cc in absurd (omega arith)
+  earlier-fail from (suc n) k e j l m = go (test from) refl e (λ rest. earlier-fail (suc from) n k rest j) (eq-or-lt-of-le l)
+    where
+      go : (b : Bool) → test from ≡ b → cond b (some from) (firstFrom test (suc from) n) ≡ some k
+          → (firstFrom test (suc from) n ≡ some k → suc from ≤ j → j < k → test j ≡ false) → (from ≡ j) ⊎ (from < j) → test j ≡ false
+      go true t e later w = let same : from ≡ k = cc in absurd (omega arith)
+      go false t e later (inl same) = ap test (sym same) ∙ t
+      go false t e later (inr less) = later e less m
 
 -- ---- rows as a list
 abbrev pub read {ℓ} : {A : Type ℓ} → (ℕ → A) → Option ℕ → Option A
@@ -147,7 +158,7 @@ pub rising-near : (key : ℕ → ℕ) (n : ℕ) → ((j : ℕ) → suc j < n →
 unfolding Rising
 rising-near key n near = chained (λ i j. key i < key j) (λ i j k a b. omega arith) n near
 
-before-chain : (a b c d e f : ℕ) → Before a b c d → Before c d e f → Before a b e f
+pub before-chain : (a b c d e f : ℕ) → Before a b c d → Before c d e f → Before a b e f
 before-chain a b c d e f (inl p) (inl q) = inl (omega arith)
 before-chain a b c d e f (inl p) (inr q) = inl (omega (arith, q .0))
 before-chain a b c d e f (inr p) (inl q) = inl (omega (arith, p .0))

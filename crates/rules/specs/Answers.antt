@@ -1,11 +1,18 @@
 -- "Numbers returned": document 01's number and places of each answer, and how places are written to a lent buffer.
 -- Assumes nothing.
+use mathlib.Core.Option.{Option, none, some}
 use mathlib.Core.List.{List, [], _∷_, _++_}
 use Prim.Native.Nat.{ℕ, _/_}
 use lib.ListN.{take}
 use Rattle.rules.specs.Bytes.{little, bytes4, padded}
+use Rattle.rules.specs.declared.Places.{Places}
+use Rattle.rules.specs.declared.Cause.{Cause}
+use Rattle.rules.specs.declared.Cause.the-variants.{TooManyRows, BrokenRow, UnknownSymbol, InvalidRelocationOffset, SectionNotFound, NotWideLoad, ValueOutside, UnknownForm, NoCode, UnknownFunction, NoRoom, LineOutside, NoRoot, BrokenInfo}
+use Rattle.rules.specs.declared.Refusal.{Refusal}
 use Rattle.rules.specs.declared.Answer.{Answer}
-use Rattle.rules.specs.declared.Answer.the-variants.{Done, TooManyRows, BrokenRow, UnknownSymbol, InvalidRelocationOffset, SectionNotFound, NotWideLoad, ValueOutside, UnknownForm, NoCode, UnknownFunction, NoRoom, LineOutside, NoRoot, BrokenInfo}
+use Rattle.rules.specs.declared.Answer.the-variants as answer
+use Rattle.rules.specs.declared.Judgement.{Judgement}
+use Rattle.rules.specs.declared.Judgement.the-variants as judgement
 
 -- "They return the number and write the place numbers": three of them
 pub record Reply : Type 0 where
@@ -16,22 +23,37 @@ pub record Reply : Type 0 where
 abbrev pub reply : ℕ → ℕ → ℕ → ℕ → Reply
 reply number a b c = record { number = number; places = a ∷ b ∷ c ∷ [] }
 
+abbrev pub placesOf : Places → List ℕ
+placesOf p = p .0 ∷ p .1 ∷ p .2 ∷ []
+
+-- document 01's number of each cause
+abbrev pub numberOf : Cause → ℕ
+numberOf TooManyRows = 1
+numberOf BrokenRow = 2
+numberOf UnknownSymbol = 3
+numberOf InvalidRelocationOffset = 4
+numberOf SectionNotFound = 5
+numberOf NotWideLoad = 6
+numberOf ValueOutside = 7
+numberOf UnknownForm = 8
+numberOf NoCode = 9
+numberOf UnknownFunction = 10
+numberOf NoRoom = 11
+numberOf LineOutside = 12
+numberOf NoRoot = 13
+numberOf BrokenInfo = 14
+
+abbrev pub refusedReply : Refusal → Reply
+refusedReply r = record { number = numberOf (r .cause); places = placesOf (r .places) }
+
 abbrev pub replyOf : Answer → Reply
-replyOf (Done a b c) = reply 0 a b c
-replyOf (TooManyRows table) = reply 1 table 0 0
-replyOf (BrokenRow table row) = reply 2 table row 0
-replyOf (UnknownSymbol function slot) = reply 3 function slot 0
-replyOf (InvalidRelocationOffset function slot) = reply 4 function slot 0
-replyOf (SectionNotFound function slot) = reply 5 function slot 0
-replyOf (NotWideLoad function slot) = reply 6 function slot 0
-replyOf (ValueOutside function slot) = reply 7 function slot 0
-replyOf (UnknownForm function slot) = reply 8 function slot 0
-replyOf (NoCode function slot) = reply 9 function slot 0
-replyOf (UnknownFunction caller slot) = reply 10 caller slot 0
-replyOf (NoRoom function) = reply 11 function 0 0
-replyOf (LineOutside function place) = reply 12 function place 0
-replyOf NoRoot = reply 13 0 0 0
-replyOf BrokenInfo = reply 14 0 0 0
+replyOf (answer.Done p) = record { number = 0; places = placesOf p }
+replyOf (answer.Refused r) = refusedReply r
+
+-- the reply of what is refused, if anything is
+abbrev pub refusalIn : Judgement → Option Reply
+refusalIn judgement.Passes = none
+refusalIn (judgement.Refused r) = some (refusedReply r)
 
 -- numbers as u32 each
 abbrev pub numbers : List ℕ → List ℕ

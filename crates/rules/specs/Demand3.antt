@@ -14,7 +14,7 @@ use Rattle.rules.specs.Faithful.{Piece, piece, Faithful}
 use Rattle.rules.specs.Walk.{standing, SourcePlace, place, sourceWalk}
 use Rattle.rules.specs.Together.{KeepsPath}
 use Rattle.rules.specs.Bytes.{Order, decoded}
-use Rattle.rules.specs.Tables.{SymbolKind, other, text, section, Symbol, Relocation, Tables, rowOf, isCode, relocationAt, objectOf}
+use Rattle.rules.specs.Tables.{Symbol, Relocation, Tables, rowOf, refersToCode, relocationAt, objectOf}
 use Rattle.rules.specs.Maps.{symbolOf}
 use Rattle.rules.specs.Records.{imageFunctions, imageLines}
 use Rattle.rules.specs.Rows.{rowSize, Offered, tablesOf}
@@ -37,14 +37,6 @@ usedLineInfo r = take (rowSize LineInfo * count r 2) (r .lineInfo)
 pub record Calls (object : Object) (row slot : ℕ) : Type 0 where
   pub callee : ℕ
   pub is : meaning object row slot ≡ call callee
-
--- "It refers to code if the kind is Text or its section is in table 1"
-abbrev pub refersToCode : Tables → SymbolKind → Option ℕ → Bool
-refersToCode tables text home = true
-refersToCode tables section none = false
-refersToCode tables section (some home) = isCode tables home
-refersToCode tables other none = false
-refersToCode tables other (some home) = isCode tables home
 
 -- "A function reference is a wide load whose relocation refers to code"
 pub record FunctionReference (tables : Tables) (row slot : ℕ) : Type 0 where

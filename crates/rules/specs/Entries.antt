@@ -58,12 +58,16 @@ pub record Outputs : Type 0 where
   pub funcInfo : ℕ
   pub lineInfo : ℕ
 
+-- what the limits leave room for
+abbrev pub mostRoom : Room
+mostRoom = record { slots = mostImageSlots; functions = mostImageFunctions; lines = mostImageLines }
+
 -- "room for instructions, function records, line records (11 each, in the buffer and under the limit)"
 abbrev pub roomIn : Outputs → Room
 roomIn lent = record {
-  slots = min (lent .image / rowSize Instructions) mostImageSlots;
-  functions = min (lent .funcInfo / rowSize FuncInfo) mostImageFunctions;
-  lines = min (lent .lineInfo / rowSize LineInfo) mostImageLines;
+  slots = min (lent .image / rowSize Instructions) (mostRoom .slots);
+  functions = min (lent .funcInfo / rowSize FuncInfo) (mostRoom .functions);
+  lines = min (lent .lineInfo / rowSize LineInfo) (mostRoom .lines);
 }
 
 pub record LinkResult : Type 0 where

@@ -12,4 +12,5 @@ pub mod Rows
 pub mod Lookups
 pub mod Readers
 pub mod Entries
+pub mod Lent
 pub mod Demand3

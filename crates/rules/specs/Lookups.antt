@@ -1,7 +1,6 @@
 -- The lookups of document 01 over the tables' bytes, by row number: what a search of a checked table answers.
 -- Assumes nothing.
 use mathlib.Core.Path.{_≡_}
-use mathlib.Core.Logic.{_⊎_}
 use mathlib.Core.Bool.{Bool, true, false, cond, not, _&&_, _||_}
 use mathlib.Core.Option.{Option, none, some}
 use mathlib.Core.List.{List}
@@ -13,7 +12,7 @@ use Rattle.rules.specs.declared.Table.{Table}
 use Rattle.rules.specs.declared.Table.the-variants.{Code, Symbols, Functions, Relocations, Maps, Instructions, FuncInfo, LineInfo}
 use Rattle.rules.specs.declared.Found.{Found}
 use Rattle.rules.specs.declared.Found.the-variants.{At, Nothing}
-use Rattle.rules.specs.Tables.{isAt, isSome}
+use Rattle.rules.specs.Tables.{isAt, isSome, Before}
 use Rattle.rules.specs.Maps.{isSymbol, hasNone}
 use Rattle.rules.specs.Rows.{rowSize, Offered, total, below, wholeRows, isTooMany, firstBroken, firstFrom, codeSection, symbolIndex, functionSection, functionAddress, relocationSection, relocationOffset, mapSection, mapSymbol, orNone, noneNumber}
 
@@ -63,14 +62,17 @@ functionWith t home address = firstFrom (λ k. eqb (functionSection t k) home &&
 unfoldable pub relocationWith : List ℕ → ℕ → ℕ → Option ℕ
 relocationWith t home offset = firstFrom (λ k. eqb (relocationSection t k) home && eqb (relocationOffset t k) offset) 0 (wholeRows Relocations t)
 
--- how many relocations stand before (home, offset): the first row at or after it, or their count
+-- how many of n rows come before the first that fails a test
 abbrev pub orEnd : Option ℕ → ℕ → ℕ
 orEnd none end = end
 orEnd (some k) end = k
 
+abbrev pub howMany : (ℕ → Bool) → ℕ → ℕ
+howMany test n = orEnd (firstFrom (λ k. not (test k)) 0 n) n
+
+-- how many relocations stand before (home, offset)
 unfoldable pub relocationsBefore : List ℕ → ℕ → ℕ → ℕ
-relocationsBefore t home offset =
-    orEnd (firstFrom (λ k. not (below (relocationSection t k) (relocationOffset t k) home offset)) 0 (wholeRows Relocations t)) (wholeRows Relocations t)
+relocationsBefore t home offset = howMany (λ k. below (relocationSection t k) (relocationOffset t k) home offset) (wholeRows Relocations t)
 
 -- "the map with that symbol, else the map of that section without a symbol"
 unfoldable pub mapWithSymbol : List ℕ → ℕ → Option ℕ
@@ -82,10 +84,6 @@ mapOfSection t home = firstFrom (λ k. eqb (mapSection t k) home && hasNone (orN
 -- keys that rise strictly over the first n rows, one number or a pair
 unfoldable pub Rising : (ℕ → ℕ) → ℕ → Type 0
 Rising key n = (i j : ℕ) → i < j → j < n → key i < key j
-
--- (a, b) before (c, d)
-abbrev pub Before : ℕ → ℕ → ℕ → ℕ → Type 0
-Before a b c d = (a < c) ⊎ ((a ≡ c) × (b < d))
 
 unfoldable pub RisingPair : (ℕ → ℕ) → (ℕ → ℕ) → ℕ → Type 0
 RisingPair first second n = (i j : ℕ) → i < j → j < n → Before (first i) (second i) (first j) (second j)

@@ -7,7 +7,7 @@ use Prim.Native.Nat.{ℕ, zero, suc, _+_, _*_, _-_, _/_, _%_}
 use lib.IntN.{ℤ, pos, negsuc, _+ℤ_}
 use lib.Dec.{eqb, ltb, leb}
 use lib.ListN.{length, set}
-use Rattle.rules.specs.Object.{Insn, isCall, isBlank}
+use Rattle.rules.specs.Object.{Insn, isCall, isWideIn}
 use Rattle.rules.specs.Faithful.{slotAt}
 use Rattle.rules.specs.Link.{Refusal, refusal}
 use Rattle.rules.specs.Bytes.{half32, withImmediate, withSource}
@@ -102,7 +102,7 @@ module _ (tables : Tables) where
   slotIn image row slot = slotAt image (base tables row + slot)
 
   abbrev pub isWide : List Insn → ℕ → ℕ → Bool
-  isWide image row slot = eqb (slotIn image row slot .opcode) 0x18 && ltb (suc slot) (rowOf tables row .slots) && isBlank (slotIn image row (suc slot))
+  isWide image row slot = isWideIn (slotIn image row) (rowOf tables row .slots) slot
 
   abbrev pub symbolOf : Relocation → Option Symbol
   symbolOf r = first (λ s. eqb (s .index) (r .symbol)) (tables .symbols)
@@ -176,16 +176,6 @@ module _ (tables : Tables) where
   rewriteAll judged [] image = image
   rewriteAll judged (t ∷ ts) image = rewriteAll judged ts (rewrite (judge tables judged t) t image)
 
-  -- every task judged by the slots as they stand
-  unfoldable pub rewriteInPlace : List Task → List Insn → List Insn
-  rewriteInPlace [] image = image
-  rewriteInPlace (t ∷ ts) image = rewriteInPlace ts (rewrite (judge tables image t) t image)
-
-  -- and how many apply
-  unfoldable pub appliedInPlace : List Task → List Insn → ℕ
-  appliedInPlace [] image = 0
-  appliedInPlace (t ∷ ts) image = counted tables (judge tables image t) (appliedInPlace ts (rewrite (judge tables image t) t image))
-
   abbrev pub unlessRefused : Option Refusal → MapOutcome → MapOutcome
   unlessRefused none outcome = outcome
   unlessRefused (some why) outcome = refuses why
@@ -195,9 +185,3 @@ module _ (tables : Tables) where
   mapStep =
       unlessRefused (firstRefusal tables (tables .instructions) (allTasks tables))
       (mapped (rewriteAll (tables .instructions) (allTasks tables) (tables .instructions)) (applied tables (tables .instructions) (allTasks tables)))
-
-  -- the same, as code does it: everything checked first, then judged again and rewritten in place (`map-step-in-place`)
-  unfoldable pub mapStepInPlace : MapOutcome
-  mapStepInPlace =
-      unlessRefused (firstRefusal tables (tables .instructions) (allTasks tables))
-      (mapped (rewriteInPlace (allTasks tables) (tables .instructions)) (appliedInPlace (allTasks tables) (tables .instructions)))

@@ -42,10 +42,13 @@ pub record Object : Type 0 where
   pub insn : ℕ → ℕ → Insn
   pub named : ℕ → ℕ → Named
 
--- "A wide load is opcode 18 hex with a next slot in the same function whose first four bytes are 0" (RFC 9669, sections 3.2 and 5.4)
+-- "A wide load is opcode 18 hex with a next slot in the same function whose first four bytes are 0" (RFC 9669, sections 3.2 and 5.4):
+-- the slot of that number, of a function that has so many
+abbrev pub isWideIn : (ℕ → Insn) → ℕ → ℕ → Bool
+isWideIn insn slots slot = eqb (insn slot .opcode) 0x18 && ltb (suc slot) slots && isBlank (insn (suc slot))
+
 unfoldable pub isWideLoad : Object → ℕ → ℕ → Bool
-isWideLoad object row slot =
-    eqb (object .insn row slot .opcode) 0x18 && ltb (suc slot) (object .slots row) && isBlank (object .insn row (suc slot))
+isWideLoad object row slot = isWideIn (object .insn row) (object .slots row) slot
 
 -- what the link step makes of a slot
 pub data Meaning : Type 0 where

@@ -10,7 +10,7 @@ use lib.ListN.{length, getD, take, drop}
 use Rattle.rules.specs.declared.Table.{Table}
 use Rattle.rules.specs.declared.Table.the-variants.{Code, Symbols, Functions, Relocations, Maps, Instructions, FuncInfo, LineInfo}
 use Rattle.rules.specs.Link.{run}
-use Rattle.rules.specs.Bytes.{Order, little, byteAt, u32At, u64At, signed, half32, decoded}
+use Rattle.rules.specs.Bytes.{Order, little, slotSize, byteAt, u32At, u64At, signed, half32, decoded}
 use Rattle.rules.specs.Answers.{Reply, reply}
 use Rattle.rules.specs.Tables.{SymbolKind, other, text, section, Symbol, Function, Relocation, MapRow, FunctionRecord, LineRecord, Tables, before}
 
@@ -33,7 +33,7 @@ rowSize Symbols = 24
 rowSize Functions = 32
 rowSize Relocations = 24
 rowSize Maps = 16
-rowSize Instructions = 8
+rowSize Instructions = slotSize
 rowSize FuncInfo = 8
 rowSize LineInfo = 16
 
@@ -72,6 +72,20 @@ mostAddress = 0xFFFF_FFFF_FFFF
 -- "FFFFFFFF hex means none"
 abbrev pub noneNumber : ℕ
 noneNumber = 0xFFFF_FFFF
+
+-- "kind u8 (0 other, 1 Text, 2 Section)"
+abbrev pub otherKind : ℕ
+otherKind = 0
+
+abbrev pub textKind : ℕ
+textKind = 1
+
+abbrev pub sectionKind : ℕ
+sectionKind = 2
+
+-- "has data u8 (0 or 1)"
+abbrev pub withData : ℕ
+withData = 1
 
 -- whole rows; "a partial row counts as one"
 abbrev pub wholeRows : Table → List ℕ → ℕ
@@ -207,7 +221,7 @@ unfoldable pub isGood : Table → List ℕ → ℕ → Bool
 isGood Code t k = isSection (codeSection t k) && rises (codeSection t) k
 isGood Symbols t k =
     not (eqb (symbolIndex t k) noneNumber) && (isSectionOrNone (symbolSection t k) && (isAddress (symbolAddress t k)
-    && (leb (symbolKind t k) 2 && (zeroFrom t (rowSize Symbols * k + 17) 7 && rises (symbolIndex t) k))))
+    && (leb (symbolKind t k) sectionKind && (zeroFrom t (rowSize Symbols * k + 17) 7 && rises (symbolIndex t) k))))
 isGood Functions t k =
     isSection (functionSection t k) && (leb 1 (functionSlots t k) && (leb (functionSlots t k) mostFunctionSlots && (isAddress (functionAddress t k)
     && (isAddress (functionOffset t k) && (eqb (functionOffset t k % 8) 0 && risesPair (functionSection t) (functionAddress t) k)))))
@@ -215,7 +229,7 @@ isGood Relocations t k =
     isSection (relocationSection t k) && (not (eqb (relocationSymbol t k) noneNumber) && (isAddress (relocationOffset t k)
     && (zeroFrom t (rowSize Relocations * k + 17) 7 && risesPair (relocationSection t) (relocationOffset t) k)))
 isGood Maps t k =
-    isSection (mapSection t k) && (leb (mapHasData t k) 1 && (zeroFrom t (rowSize Maps * k + 13) 3 && not (anyFrom (λ j. sameMap t j k) 0 k)))
+    isSection (mapSection t k) && (leb (mapHasData t k) withData && (zeroFrom t (rowSize Maps * k + 13) 3 && not (anyFrom (λ j. sameMap t j k) 0 k)))
 isGood Instructions t k = true
 isGood FuncInfo t k = true
 isGood LineInfo t k = true
@@ -345,11 +359,6 @@ abbrev pub orElse : Option Reply → Option Reply → Option Reply
 orElse none later = later
 orElse (some r) later = some r
 
--- a check's own reply: the refusal, or done
-abbrev pub orDone : Option Reply → Reply
-orDone none = reply 0 0 0 0
-orDone (some r) = r
-
 -- 13: "root is no row of table 3"
 abbrev pub noRoot : Offered → ℕ → Option Reply
 noRoot o root = cond (ltb root (wholeRows Functions (o .functions))) none (some (reply 13 0 0 0))
@@ -366,9 +375,8 @@ linkRefusal o root = orElse (tooMany o linkTables) (orElse (broken o linkTables)
 abbrev pub orNone : ℕ → Option ℕ
 orNone n = cond (eqb n noneNumber) none (some n)
 
--- "kind u8 (0 other, 1 Text, 2 Section)"
 abbrev pub kindOf : ℕ → SymbolKind
-kindOf n = cond (eqb n 0) other (cond (eqb n 1) text section)
+kindOf n = cond (eqb n otherKind) other (cond (eqb n textKind) text section)
 
 abbrev pub symbolRow : List ℕ → ℕ → Symbol
 symbolRow t k = record { index = symbolIndex t k; home = orNone (symbolSection t k); address = symbolAddress t k; kind = kindOf (symbolKind t k) }
@@ -387,7 +395,7 @@ abbrev pub relocationRow : List ℕ → ℕ → Relocation
 relocationRow t k = record { home = relocationSection t k; symbol = relocationSymbol t k; offset = relocationOffset t k; size = relocationSize t k }
 
 abbrev pub mapRow : List ℕ → ℕ → MapRow
-mapRow t k = record { home = mapSection t k; symbol = orNone (mapSymbol t k); fd = mapFd t k; hasData = eqb (mapHasData t k) 1 }
+mapRow t k = record { home = mapSection t k; symbol = orNone (mapSymbol t k); fd = mapFd t k; hasData = eqb (mapHasData t k) withData }
 
 abbrev pub funcInfoRow : Order → List ℕ → ℕ → FunctionRecord
 funcInfoRow order t k = record { slot = recordSlot order FuncInfo t k; kind = recordType order t k }

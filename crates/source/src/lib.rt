@@ -1,37 +1,36 @@
 // The source walk of demand 3: over the functions of the tables, each callee found by section and address.
 use insn::kinds::table;
-use insn::offset_at;
 use insn::place;
 use insn::slot_at;
 use resolve::Meaning;
 use resolve::resolve;
-use rows::fields::FUNCTION_SIZE;
 use rows::fields::function_offset;
 use rows::fields::function_section;
 use rows::fields::function_slots;
 use rows::find::find_relocation;
-use rules::Answer;
 use rules::Found;
+use rules::Judgement;
+use rules::Refusal;
+use rules::limits::FUNCTION_SIZE;
 use tables::checks::check_map_step;
+use tables::checks::or_no_root;
 use walk::Move;
 use walk::leads_at;
 use walk::slot_in;
 ghost use mathlib.Core.Path.{_≡_};
-ghost use mathlib.Core.List.{[]};
-ghost use Prim.Native.Nat.{_≤_, _<_};
+ghost use Prim.Native.Nat.{_<_};
 ghost use lib.IntN.{pos};
-ghost use lib.ListN.{length};
 ghost use Rattle.rules.specs.declared.Table.the-variants.{Functions};
+ghost use Rattle.rules.specs.Answers.{refusalIn};
+ghost use Rattle.rules.specs.Lent.{was, offeredCode, lentCode};
 ghost use Rattle.rules.specs.Object as object;
-ghost use Rattle.rules.specs.Rows.{wholeRows, summed, functionSlots, mapStepOffer};
+ghost use Rattle.rules.specs.Rows.{wholeRows, summed, functionSlots};
 ghost use Rattle.rules.specs.Lookups.{Sound};
-ghost use Rattle.rules.specs.Tables.{objectOf};
 ghost use Rattle.rules.specs.Walk as walks;
-ghost use Rattle.rules.specs.Walk.{inSource, sourceWalk};
-ghost use Rattle.resolve.specs.Means.{tablesIn};
-ghost use Rattle.walk.specs.Runs.{answersIn, walkFrom, Stepped, Ran};
-ghost use Rattle.source.specs.Moves.{Source, Slotted, slotsIn, calledBy, moveFrom, enteredBy};
-ghost use Rattle.source.specs.Steps.{lent, sourceFrames, stoodOf, arrivedAt, framelessAt, Stepping, SourceWalked};
+ghost use Rattle.rules.specs.Walk.{inSource};
+ghost use Rattle.source.specs.Moves.{objectIn, Source, Slotted, slotsIn, calledBy, moveFrom, enteredBy};
+ghost use Rattle.source.specs.Steps.{framesOf, arrivedAt, framelessAt, walkRefusal, Fitting};
+ghost use Rattle.source.specs.Steps.{WentOn, SourceStepped, SourceRan, SourceWalked};
 
 // Where a slot of a function leads: a jump stays in its function.
 pub enum SourceMove {
@@ -58,28 +57,30 @@ pub enum SourceStand {
 pub enum SourceRun {
     Came(SourceStand),
     // 1, 2 or 13, as the link refuses
-    Refused(Answer),
+    Refused(Refusal),
 }
 
 // What is no row of table 3 has no slots.
 pub fn slots_of(functions: &[u8], row: usize) -> u32
-    ensures { λ r. ⌜ r ≡ slotsIn (now (functions .entry)) row ⌝ }
+    ensures { λ r. ⌜ r ≡ slotsIn (was functions) row ⌝ }
 {
     if row >= functions.len() / FUNCTION_SIZE {
         return 0;
     }
-    function_slots(functions, row)
+    let slots = function_slots(functions, row);
+    slots.0
 }
 
 // Where a row's slots begin in table 6.
 pub fn first_slot(functions: &[u8], row: usize) -> u32
     requires { ⌜ Sound Functions (now functions) × (row < wholeRows Functions (now functions)) ⌝ }
-    ensures { λ r. ⌜ r ≡ summed (functionSlots (now (functions .entry))) 0 row ⌝ }
+    ensures { λ r. ⌜ r ≡ summed (functionSlots (was functions)) 0 row ⌝ }
 {
     let mut first: u32 = 0;
     let mut k = 0;
     while k < row {
-        first += function_slots(functions, k);
+        let slots = function_slots(functions, k);
+        first += slots.0;
         k += 1;
     }
     first
@@ -96,11 +97,11 @@ pub fn callee(
     first: u32,
     slot: u32,
 ) -> Found
-    requires { ⌜ Slotted (now code) (now symbols) (now functions) (now relocations) (now instructions) row first slot ⌝ }
-    ensures { λ r. ⌜ r ≡ calledBy (object.meaning (objectOf (tablesIn (now (code .entry)) (now (symbols .entry)) (now (functions .entry)) (now (relocations .entry)) (now (instructions .entry)))) row slot) ⌝ }
+    requires { ⌜ Slotted (offeredCode code symbols functions relocations instructions) row first slot ⌝ }
+    ensures { λ r. ⌜ r ≡ calledBy (object.meaning (objectIn (lentCode code symbols functions relocations instructions)) row slot) ⌝ }
 {
-    let at = place(offset_at(function_offset(functions, row)), slot_at(slot));
-    let rel = find_relocation(relocations, function_section(functions, row), at.0);
+    let at = place(function_offset(functions, row), slot_at(slot));
+    let rel = find_relocation(relocations, function_section(functions, row), at);
     let meaning = resolve(
         code,
         symbols,
@@ -153,8 +154,9 @@ pub fn move_at(
     first: u32,
     slot: u32,
 ) -> SourceMove
-    requires { ⌜ Source (now kinds) (now code) (now symbols) (now functions) (now relocations) (now instructions) × Slotted (now code) (now symbols) (now functions) (now relocations) (now instructions) row first slot ⌝ }
-    ensures { λ r. ⌜ moveFrom row r ≡ inSource (objectOf (tablesIn (now (code .entry)) (now (symbols .entry)) (now (functions .entry)) (now (relocations .entry)) (now (instructions .entry)))) (walks.place row (pos slot)) ⌝ }
+    requires { ⌜ Source (now kinds) (offeredCode code symbols functions relocations instructions)
+        × Slotted (offeredCode code symbols functions relocations instructions) row first slot ⌝ }
+    ensures { λ r. ⌜ moveFrom row r ≡ inSource (objectIn (lentCode code symbols functions relocations instructions)) (walks.place row (pos slot)) ⌝ }
 {
     let led = leads_at(kinds, instructions, slot_at(first + slot), slot);
     match led {
@@ -199,8 +201,8 @@ pub fn source_move(
     row: usize,
     at: i64,
 ) -> SourceMove
-    requires { ⌜ Source (now kinds) (now code) (now symbols) (now functions) (now relocations) (now instructions) ⌝ }
-    ensures { λ r. ⌜ moveFrom row r ≡ inSource (objectOf (tablesIn (now (code .entry)) (now (symbols .entry)) (now (functions .entry)) (now (relocations .entry)) (now (instructions .entry)))) (walks.place row at) ⌝ }
+    requires { ⌜ Source (now kinds) (offeredCode code symbols functions relocations instructions) ⌝ }
+    ensures { λ r. ⌜ moveFrom row r ≡ inSource (objectIn (lentCode code symbols functions relocations instructions)) (walks.place row at) ⌝ }
 {
     let found = slot_in(at, slots_of(functions, row));
     match found {
@@ -224,7 +226,7 @@ pub fn source_move(
 }
 
 pub fn arrive(functions: &[u8], row: usize, at: i64, depth: usize, taken: usize) -> SourceStand
-    ensures { λ r. ⌜ r ≡ arrivedAt (slotsIn (now (functions .entry)) row) row at depth taken ⌝ }
+    ensures { λ r. ⌜ r ≡ arrivedAt (slotsIn (was functions) row) row at depth taken ⌝ }
 {
     let found = slot_in(at, slots_of(functions, row));
     match found {
@@ -239,7 +241,7 @@ pub fn arrive(functions: &[u8], row: usize, at: i64, depth: usize, taken: usize)
 
 // A call for which there is no frame.
 pub fn frameless(functions: &[u8], row: usize) -> SourceStand
-    ensures { λ r. ⌜ r ≡ framelessAt (slotsIn (now (functions .entry)) row) ⌝ }
+    ensures { λ r. ⌜ r ≡ framelessAt (slotsIn (was functions) row) ⌝ }
 {
     if slots_of(functions, row) == 0 {
         return SourceStand::Left;
@@ -247,35 +249,23 @@ pub fn frameless(functions: &[u8], row: usize) -> SourceStand
     SourceStand::NoFrame
 }
 
-// A frame is a row and a slot: as many frames are lent as both slices have.
-pub fn source_step(
-    kinds: &[u8; 256],
-    code: &[u8],
-    symbols: &[u8],
+// By the move found at slot `at` of `row`. A frame is a row and a slot: as many frames are lent as both slices have.
+fn go_on(
     functions: &[u8],
-    relocations: &[u8],
-    instructions: &[u8],
     frame_rows: &mut [usize],
     frame_slots: &mut [i64],
     answers: &[u8],
+    found: SourceMove,
     row: usize,
     at: i64,
     depth: usize,
     taken: usize,
 ) -> SourceStand
-    requires { ⌜ Stepping (now kinds) (now code) (now symbols) (now functions) (now relocations) (now instructions) (lent (now «frame_rows») (now «frame_slots»)) (now answers) depth taken ⌝ }
-    ensures { λ r. ⌜ Stepped sourceFrames (inSource (objectOf (tablesIn (now (code .entry)) (now (symbols .entry)) (now (functions .entry)) (now (relocations .entry)) (now (instructions .entry))))) (length (now (answers .entry))) (lent (now («frame_rows» .entry)) (now («frame_slots» .entry))) (lent (now («frame_rows» .exit)) (now («frame_slots» .exit))) (walkFrom sourceFrames (lent (now («frame_rows» .entry)) (now («frame_slots» .entry))) (now (answers .entry)) (walks.place row at) depth taken) (stoodOf r) ⌝ }
+    requires { ⌜ Fitting (framesOf (now «frame_rows») (now «frame_slots»)) (now answers) depth taken ⌝ }
+    ensures { λ r. ⌜ WentOn (was functions) found
+        (framesOf (was «frame_rows») (was «frame_slots»)) (framesOf (now («frame_rows» .exit)) (now («frame_slots» .exit)))
+        (was answers) row at depth taken r ⌝ }
 {
-    let found = source_move(
-        kinds,
-        code,
-        symbols,
-        functions,
-        relocations,
-        instructions,
-        row,
-        at,
-    );
     match found {
         SourceMove::Outside => {
             return SourceStand::Left;
@@ -316,6 +306,50 @@ pub fn source_step(
     }
 }
 
+pub fn source_step(
+    kinds: &[u8; 256],
+    code: &[u8],
+    symbols: &[u8],
+    functions: &[u8],
+    relocations: &[u8],
+    instructions: &[u8],
+    frame_rows: &mut [usize],
+    frame_slots: &mut [i64],
+    answers: &[u8],
+    row: usize,
+    at: i64,
+    depth: usize,
+    taken: usize,
+) -> SourceStand
+    requires { ⌜ Source (now kinds) (offeredCode code symbols functions relocations instructions)
+        × Fitting (framesOf (now «frame_rows») (now «frame_slots»)) (now answers) depth taken ⌝ }
+    ensures { λ r. ⌜ SourceStepped (lentCode code symbols functions relocations instructions)
+        (framesOf (was «frame_rows») (was «frame_slots»)) (framesOf (now («frame_rows» .exit)) (now («frame_slots» .exit)))
+        (was answers) row at depth taken r ⌝ }
+{
+    let found = source_move(
+        kinds,
+        code,
+        symbols,
+        functions,
+        relocations,
+        instructions,
+        row,
+        at,
+    );
+    go_on(
+        functions,
+        frame_rows,
+        frame_slots,
+        answers,
+        found,
+        row,
+        at,
+        depth,
+        taken,
+    )
+}
+
 // At most `limit` steps from the first slot of the root.
 pub fn source_run(
     kinds: &[u8; 256],
@@ -330,8 +364,10 @@ pub fn source_run(
     root: usize,
     limit: usize,
 ) -> SourceStand
-    requires { ⌜ Source (now kinds) (now code) (now symbols) (now functions) (now relocations) (now instructions) ⌝ }
-    ensures { λ r. ⌜ Ran sourceFrames (inSource (objectOf (tablesIn (now (code .entry)) (now (symbols .entry)) (now (functions .entry)) (now (relocations .entry)) (now (instructions .entry))))) (length (now (answers .entry))) (lent (now («frame_rows» .entry)) (now («frame_slots» .entry))) (lent (now («frame_rows» .exit)) (now («frame_slots» .exit))) (sourceWalk (objectOf (tablesIn (now (code .entry)) (now (symbols .entry)) (now (functions .entry)) (now (relocations .entry)) (now (instructions .entry)))) root (answersIn (now (answers .entry)))) limit (stoodOf r) ⌝ }
+    requires { ⌜ Source (now kinds) (offeredCode code symbols functions relocations instructions) ⌝ }
+    ensures { λ r. ⌜ SourceRan (lentCode code symbols functions relocations instructions) root
+        (framesOf (was «frame_rows») (was «frame_slots»)) (framesOf (now («frame_rows» .exit)) (now («frame_slots» .exit)))
+        (was answers) limit r ⌝ }
 {
     if slots_of(functions, root) == 0 {
         return SourceStand::Left;
@@ -357,29 +393,42 @@ pub fn source_run(
             depth,
             taken,
         );
-        match next {
-            SourceStand::Standing(to, place, used, told) => {
-                row = to;
-                at = place;
-                depth = used;
-                taken = told;
-                k += 1;
-            }
-            SourceStand::Stopped(to, place, used) => {
-                return SourceStand::Stopped(to, place, used);
-            }
-            SourceStand::Ended(to, place) => {
-                return SourceStand::Ended(to, place);
-            }
-            SourceStand::Left => {
-                return SourceStand::Left;
-            }
-            SourceStand::NoFrame => {
-                return SourceStand::NoFrame;
-            }
-        }
+        let SourceStand::Standing(to, place, used, told) = next else {
+            return next;
+        };
+        row = to;
+        at = place;
+        depth = used;
+        taken = told;
+        k += 1;
     }
     SourceStand::Standing(row, at, depth, taken)
+}
+
+// What the link refuses of these tables: 1, 2 and 13.
+pub fn check_source(
+    code: &[u8],
+    symbols: &[u8],
+    functions: &[u8],
+    relocations: &[u8],
+    instructions: &[u8],
+    root: u32,
+) -> Judgement
+    ensures { λ r. ⌜ refusalIn r ≡ walkRefusal (lentCode code symbols functions relocations instructions) root ⌝ }
+{
+    let none = [0u8; 1];
+    let checked = check_map_step(
+        code,
+        symbols,
+        functions,
+        relocations,
+        &none[..0],
+        instructions,
+    );
+    let Judgement::Passes = checked else {
+        return checked;
+    };
+    or_no_root(functions, root)
 }
 
 // The walk of the tables' functions, from the root's first slot, at most `limit` steps. Any bytes may be offered.
@@ -395,37 +444,31 @@ pub fn walk_source(
     answers: &[u8],
     limit: usize,
 ) -> SourceRun
-    ensures { λ r. ⌜ SourceWalked (mapStepOffer (now (code .entry)) (now (symbols .entry)) (now (functions .entry)) (now (relocations .entry)) [] (now (instructions .entry))) root (lent (now («frame_rows» .entry)) (now («frame_slots» .entry))) (lent (now («frame_rows» .exit)) (now («frame_slots» .exit))) (now (answers .entry)) limit r ⌝ }
+    ensures { λ r. ⌜ SourceWalked (lentCode code symbols functions relocations instructions) root
+        (framesOf (was «frame_rows») (was «frame_slots»)) (framesOf (now («frame_rows» .exit)) (now («frame_slots» .exit)))
+        (was answers) limit r ⌝ }
 {
-    let none = [0u8; 1];
-    let checked = check_map_step(
-        code,
-        symbols,
-        functions,
-        relocations,
-        &none[..0],
-        instructions,
-    );
-    let Answer::Done(_, _, _) = checked else {
-        return SourceRun::Refused(checked);
-    };
-    let row = root as usize;
-    if row >= functions.len() / FUNCTION_SIZE {
-        return SourceRun::Refused(Answer::NoRoot);
+    let checked = check_source(code, symbols, functions, relocations, instructions, root);
+    match checked {
+        Judgement::Refused(why) => {
+            return SourceRun::Refused(why);
+        }
+        Judgement::Passes => {
+            let kinds = table();
+            let stand = source_run(
+                &kinds,
+                code,
+                symbols,
+                functions,
+                relocations,
+                instructions,
+                frame_rows,
+                frame_slots,
+                answers,
+                root as usize,
+                limit,
+            );
+            return SourceRun::Came(stand);
+        }
     }
-    let kinds = table();
-    let stand = source_run(
-        &kinds,
-        code,
-        symbols,
-        functions,
-        relocations,
-        instructions,
-        frame_rows,
-        frame_slots,
-        answers,
-        row,
-        limit,
-    );
-    SourceRun::Came(stand)
 }

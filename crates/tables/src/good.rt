@@ -1,7 +1,4 @@
 // Whether row k of a table is good. Every test of a row is made, without a branch.
-use rows::fields::MAP_SIZE;
-use rows::fields::RELOCATION_SIZE;
-use rows::fields::SYMBOL_SIZE;
 use rows::fields::code_section;
 use rows::fields::function_address;
 use rows::fields::function_offset;
@@ -17,7 +14,18 @@ use rows::fields::symbol_address;
 use rows::fields::symbol_index;
 use rows::fields::symbol_kind;
 use rows::fields::symbol_section;
+use rows::order::is_before;
+use rules::ByteOffset;
 use rules::Table;
+use rules::limits::HAS_DATA;
+use rules::limits::MAP_SIZE;
+use rules::limits::MOST_ADDRESS;
+use rules::limits::MOST_FUNCTION_SLOTS;
+use rules::limits::MOST_SECTION;
+use rules::limits::NONE;
+use rules::limits::RELOCATION_SIZE;
+use rules::limits::SECTION;
+use rules::limits::SYMBOL_SIZE;
 use wire::all_zero;
 ghost use mathlib.Core.Path.{_≡_};
 ghost use mathlib.Core.Bool.{not, _||_};
@@ -25,17 +33,8 @@ ghost use Prim.Native.Nat.{_+_, _*_, _-_, _≤_, _<_};
 ghost use lib.Dec.{eqb, ltb};
 ghost use lib.ListN.{length};
 ghost use Rattle.rules.specs.declared.Table.the-variants.{Code, Symbols, Functions, Relocations, Maps};
-ghost use Rattle.rules.specs.Rows.{rowSize, noneNumber, isSection, isSectionOrNone, isAddress, below, sameMap, anyFrom, isGood};
-
-pub const NONE: u32 = 0xFFFF_FFFF;
-
-const MOST_SECTION: u32 = 65535;
-
-const MOST_ADDRESS: u64 = 0xFFFF_FFFF_FFFF;
-
-const MOST_SLOTS: u32 = 4096;
-
-const MOST_KIND: u8 = 2;
+ghost use Rattle.rules.specs.Lent.{was};
+ghost use Rattle.rules.specs.Rows.{rowSize, isSection, isSectionOrNone, isAddress, sameMap, anyFrom, isGood};
 
 fn is_section(s: u32) -> bool
     ensures { λ r. ⌜ r ≡ isSection s ⌝ }
@@ -49,10 +48,10 @@ fn is_section_or_none(s: u32) -> bool
     (s == NONE) | (s <= MOST_SECTION)
 }
 
-fn is_address(a: u64) -> bool
-    ensures { λ r. ⌜ r ≡ isAddress a ⌝ }
+fn is_address(a: ByteOffset) -> bool
+    ensures { λ r. ⌜ r ≡ isAddress (a .0) ⌝ }
 {
-    a <= MOST_ADDRESS
+    a.0 <= MOST_ADDRESS
 }
 
 // The row before, or row 0 again.
@@ -65,16 +64,9 @@ fn previous(k: usize) -> usize
     k - 1
 }
 
-// (a, b) before (c, d).
-fn below(a: u32, b: u64, c: u32, d: u64) -> bool
-    ensures { λ r. ⌜ r ≡ below a b c d ⌝ }
-{
-    (a < c) | ((a == c) & (b < d))
-}
-
 fn code_good(t: &[u8], k: usize) -> bool
     requires { ⌜ rowSize Code * k + rowSize Code ≤ length (now t) ⌝ }
-    ensures { λ r. ⌜ r ≡ isGood Code (now (t .entry)) k ⌝ }
+    ensures { λ r. ⌜ r ≡ isGood Code (was t) k ⌝ }
 {
     let section = code_section(t, k);
     let last = code_section(t, previous(k));
@@ -83,21 +75,21 @@ fn code_good(t: &[u8], k: usize) -> bool
 
 fn symbol_good(t: &[u8], k: usize) -> bool
     requires { ⌜ rowSize Symbols * k + rowSize Symbols ≤ length (now t) ⌝ }
-    ensures { λ r. ⌜ r ≡ isGood Symbols (now (t .entry)) k ⌝ }
+    ensures { λ r. ⌜ r ≡ isGood Symbols (was t) k ⌝ }
 {
     let index = symbol_index(t, k);
     let last = symbol_index(t, previous(k));
     (index != NONE)
         & is_section_or_none(symbol_section(t, k))
         & is_address(symbol_address(t, k))
-        & (symbol_kind(t, k) <= MOST_KIND)
+        & (symbol_kind(t, k) <= SECTION)
         & all_zero(t, SYMBOL_SIZE * k + 17, 7)
         & ((k == 0) | (last < index))
 }
 
 fn function_good(t: &[u8], k: usize) -> bool
     requires { ⌜ rowSize Functions * k + rowSize Functions ≤ length (now t) ⌝ }
-    ensures { λ r. ⌜ r ≡ isGood Functions (now (t .entry)) k ⌝ }
+    ensures { λ r. ⌜ r ≡ isGood Functions (was t) k ⌝ }
 {
     let section = function_section(t, k);
     let slots = function_slots(t, k);
@@ -105,13 +97,13 @@ fn function_good(t: &[u8], k: usize) -> bool
     let offset = function_offset(t, k);
     let last = previous(k);
     is_section(section)
-        & (1 <= slots)
-        & (slots <= MOST_SLOTS)
+        & (1 <= slots.0)
+        & (slots.0 <= MOST_FUNCTION_SLOTS)
         & is_address(address)
         & is_address(offset)
-        & (offset % 8 == 0)
+        & (offset.0 % 8 == 0)
         & ((k == 0)
-            | below(
+            | is_before(
                 function_section(t, last),
                 function_address(t, last),
                 section,
@@ -121,7 +113,7 @@ fn function_good(t: &[u8], k: usize) -> bool
 
 fn relocation_good(t: &[u8], k: usize) -> bool
     requires { ⌜ rowSize Relocations * k + rowSize Relocations ≤ length (now t) ⌝ }
-    ensures { λ r. ⌜ r ≡ isGood Relocations (now (t .entry)) k ⌝ }
+    ensures { λ r. ⌜ r ≡ isGood Relocations (was t) k ⌝ }
 {
     let section = relocation_section(t, k);
     let offset = relocation_offset(t, k);
@@ -131,7 +123,7 @@ fn relocation_good(t: &[u8], k: usize) -> bool
         & is_address(offset)
         & all_zero(t, RELOCATION_SIZE * k + 17, 7)
         & ((k == 0)
-            | below(
+            | is_before(
                 relocation_section(t, last),
                 relocation_offset(t, last),
                 section,
@@ -142,7 +134,7 @@ fn relocation_good(t: &[u8], k: usize) -> bool
 // One symbol in both rows, or none in both and one section.
 fn same_map(t: &[u8], j: usize, k: usize) -> bool
     requires { ⌜ (j < k) × (rowSize Maps * k + rowSize Maps ≤ length (now t)) ⌝ }
-    ensures { λ r. ⌜ r ≡ sameMap (now (t .entry)) j k ⌝ }
+    ensures { λ r. ⌜ r ≡ sameMap (was t) j k ⌝ }
 {
     let symbol = map_symbol(t, k);
     (map_symbol(t, j) == symbol) & ((symbol != NONE) | (map_section(t, j) == map_section(t, k)))
@@ -150,7 +142,7 @@ fn same_map(t: &[u8], j: usize, k: usize) -> bool
 
 fn is_doubled(t: &[u8], k: usize) -> bool
     requires { ⌜ rowSize Maps * k + rowSize Maps ≤ length (now t) ⌝ }
-    ensures { λ r. ⌜ r ≡ anyFrom (λ j. sameMap (now (t .entry)) j k) 0 k ⌝ }
+    ensures { λ r. ⌜ r ≡ anyFrom (λ j. sameMap (was t) j k) 0 k ⌝ }
 {
     let mut j = 0;
     while j < k {
@@ -164,17 +156,17 @@ fn is_doubled(t: &[u8], k: usize) -> bool
 
 fn map_good(t: &[u8], k: usize) -> bool
     requires { ⌜ rowSize Maps * k + rowSize Maps ≤ length (now t) ⌝ }
-    ensures { λ r. ⌜ r ≡ isGood Maps (now (t .entry)) k ⌝ }
+    ensures { λ r. ⌜ r ≡ isGood Maps (was t) k ⌝ }
 {
     is_section(map_section(t, k))
-        & (map_has_data(t, k) <= 1)
+        & (map_has_data(t, k) <= HAS_DATA)
         & all_zero(t, MAP_SIZE * k + 13, 3)
         & !is_doubled(t, k)
 }
 
 pub fn is_good(table: Table, t: &[u8], k: usize) -> bool
     requires { ⌜ rowSize table * k + rowSize table ≤ length (now t) ⌝ }
-    ensures { λ r. ⌜ r ≡ isGood table (now (t .entry)) k ⌝ }
+    ensures { λ r. ⌜ r ≡ isGood table (was t) k ⌝ }
 {
     match table {
         Table::Code => code_good(t, k),

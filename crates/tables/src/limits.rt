@@ -1,32 +1,24 @@
 // Each table's size of a row, most rows and number.
-use rows::fields::CODE_SIZE;
-use rows::fields::FUNC_INFO_SIZE;
-use rows::fields::FUNCTION_SIZE;
-use rows::fields::LINE_INFO_SIZE;
-use rows::fields::MAP_SIZE;
-use rows::fields::RELOCATION_SIZE;
-use rows::fields::SYMBOL_SIZE;
 use rules::Table;
+use rules::limits::CODE_SIZE;
+use rules::limits::FUNC_INFO_SIZE;
+use rules::limits::FUNCTION_SIZE;
+use rules::limits::INSTRUCTION_SIZE;
+use rules::limits::LINE_INFO_SIZE;
+use rules::limits::MAP_SIZE;
+use rules::limits::MOST_CODE;
+use rules::limits::MOST_FUNC_INFO;
+use rules::limits::MOST_FUNCTIONS;
+use rules::limits::MOST_INSTRUCTIONS;
+use rules::limits::MOST_LINE_INFO;
+use rules::limits::MOST_MAPS;
+use rules::limits::MOST_RELOCATIONS;
+use rules::limits::MOST_SYMBOLS;
+use rules::limits::RELOCATION_SIZE;
+use rules::limits::SYMBOL_SIZE;
 ghost use mathlib.Core.Path.{_≡_};
+ghost use Rattle.rules.specs.Lent.{was};
 ghost use Rattle.rules.specs.Rows.{rowSize, mostRows, tableNumber, isTooMany};
-
-pub const INSTRUCTION_SIZE: usize = 8;
-
-pub const MOST_CODE: usize = 64;
-
-pub const MOST_SYMBOLS: usize = 1024;
-
-pub const MOST_FUNCTIONS: usize = 64;
-
-pub const MOST_RELOCATIONS: usize = 1024;
-
-pub const MOST_MAPS: usize = 64;
-
-pub const MOST_INSTRUCTIONS: usize = 8192;
-
-pub const MOST_FUNC_INFO: usize = 256;
-
-pub const MOST_LINE_INFO: usize = 4096;
 
 pub fn row_size(table: Table) -> usize
     ensures { λ r. ⌜ r ≡ rowSize table ⌝ }
@@ -75,7 +67,7 @@ pub fn table_number(table: Table) -> u32
 
 // A partial row counts as one: more bytes than the most rows have.
 pub fn too_many(table: Table, t: &[u8]) -> bool
-    ensures { λ r. ⌜ r ≡ isTooMany table (now (t .entry)) ⌝ }
+    ensures { λ r. ⌜ r ≡ isTooMany table (was t) ⌝ }
 {
     row_size(table) * most_rows(table) < t.len()
 }

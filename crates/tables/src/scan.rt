@@ -5,10 +5,11 @@ use rules::Found;
 use rules::Table;
 ghost use mathlib.Core.Path.{_≡_};
 ghost use Rattle.rules.specs.Lookups.{foundOf};
+ghost use Rattle.rules.specs.Lent.{was};
 ghost use Rattle.rules.specs.Rows.{firstBroken};
 
 pub fn first_broken(table: Table, t: &[u8]) -> Found
-    ensures { λ r. ⌜ r ≡ foundOf (firstBroken table (now (t .entry))) ⌝ }
+    ensures { λ r. ⌜ r ≡ foundOf (firstBroken table (was t)) ⌝ }
 {
     let size = row_size(table);
     let n = t.len() / size;

@@ -1,2 +1,2 @@
+pub mod Added
 pub mod Laws
-pub mod Replies

@@ -1,7 +1,8 @@
 -- What stands beside a slot of an image.
 -- Assumes nothing.
+use mathlib.Core.Path.{_≡_}
 use mathlib.Core.Bool.{Bool, true, false, cond}
-use mathlib.Core.List.{List}
+use mathlib.Core.List.{List, [], _∷_}
 use Prim.Native.Nat.{ℕ, zero, suc, _+_, _-_, _*_, _/_, _≤_}
 use lib.Dec.{eqb, leb, ltb}
 use lib.ListN.{length}
@@ -65,3 +66,22 @@ lineIn lines Nothing = Line·Unknown
 
 unfoldable pub lineOf : List ℕ → ℕ → ℕ → ℕ → Line
 lineOf lines own start slot = lineIn lines (lineAt lines own start slot)
+
+-- ---- a line of the listing: lines 36 to 40 of the text, and three numbers to each
+
+-- a copy's: "file, line, column", or that there is no line record
+abbrev pub copyLines : Line → List ℕ
+copyLines (Line·At file line column) = 36 ∷ 37 ∷ 39 ∷ 52 ∷ 52 ∷ []
+copyLines Line·Unknown = 36 ∷ 37 ∷ 40 ∷ 52 ∷ 52 ∷ []
+
+abbrev pub copyNumbers : ℕ → ℕ → ℕ → ℕ → ℕ → Line → List ℕ
+copyNumbers slot low high function from (Line·At file line column) =
+    slot ∷ low ∷ high ∷ function ∷ from ∷ 0 ∷ file ∷ line ∷ column ∷ 0 ∷ 0 ∷ 0 ∷ 0 ∷ 0 ∷ 0 ∷ []
+copyNumbers slot low high function from Line·Unknown = slot ∷ low ∷ high ∷ function ∷ from ∷ 0 ∷ 0 ∷ 0 ∷ 0 ∷ 0 ∷ 0 ∷ 0 ∷ 0 ∷ 0 ∷ 0 ∷ []
+
+-- a slot's: its number and its two words, the function and slot that it is a copy of, its line record
+abbrev pub RowOf : ℕ → List ℕ → ℕ → ℕ → ℕ → Source → List ℕ → List ℕ → Type 0
+RowOf own records slot low high (Copy function start from) lines numbers =
+    (lines ≡ copyLines (lineOf records own start slot)) × (numbers ≡ copyNumbers slot low high function from (lineOf records own start slot))
+RowOf own records slot low high Source·Unknown lines numbers =
+    (lines ≡ 36 ∷ 38 ∷ 52 ∷ 52 ∷ 52 ∷ []) × (numbers ≡ slot ∷ low ∷ high ∷ 0 ∷ 0 ∷ 0 ∷ 0 ∷ 0 ∷ 0 ∷ 0 ∷ 0 ∷ 0 ∷ 0 ∷ 0 ∷ 0 ∷ [])

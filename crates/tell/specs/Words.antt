@@ -1,46 +1,33 @@
--- An answer's places under the names that document 01's table "Numbers returned" gives them, and a number in digits.
+-- What a step's answer is told with: lines of a text, by document 01's table "Numbers returned". And a number in digits.
 -- Assumes nothing.
-use mathlib.Core.Bool.{Bool, true, false}
+use mathlib.Core.Bool.{Bool, true, false, cond}
 use mathlib.Core.List.{List, [], _∷_}
 use Prim.Native.Nat.{ℕ, _+_, _-_, _*_}
 use lib.Dec.{eqb, ltb}
-use Rattle.rules.specs.Answers.{Reply, reply}
-use Rattle.rules.specs.declared.Answer.{Answer}
-use Rattle.rules.specs.declared.Answer.the-variants.{TooManyRows, BrokenRow, UnknownSymbol, InvalidRelocationOffset, SectionNotFound, NotWideLoad, ValueOutside, UnknownForm, NoCode, UnknownFunction, NoRoom, LineOutside, NoRoot, BrokenInfo}
-use Rattle.rules.specs.declared.Answer.the-variants.{Done as Answer·Done}
 use Rattle.tell.specs.declared.words.Told.{Told}
-use Rattle.tell.specs.declared.words.Told.the-variants.{Done, AtTable, AtRow, AtSlot, AtCall, AtFunction, AtRecord, Nowhere}
 use Rattle.tell.specs.declared.words.Number.{Number}
 use Rattle.tell.specs.declared.words.Number.the-variants.{Whole, Not}
 
--- 1 "table, 0"; 2 "table, row"; 3 to 9 "function, slot"; 10 "caller, slot"; 11 "function being added, 0"; 12 "function, record"
-abbrev pub toldOf : Answer → Told
-toldOf (Answer·Done a b c) = Done a b c
-toldOf (TooManyRows table) = AtTable 1 table
-toldOf (BrokenRow table row) = AtRow 2 table row
-toldOf (UnknownSymbol function slot) = AtSlot 3 function slot
-toldOf (InvalidRelocationOffset function slot) = AtSlot 4 function slot
-toldOf (SectionNotFound function slot) = AtSlot 5 function slot
-toldOf (NotWideLoad function slot) = AtSlot 6 function slot
-toldOf (ValueOutside function slot) = AtSlot 7 function slot
-toldOf (UnknownForm function slot) = AtSlot 8 function slot
-toldOf (NoCode function slot) = AtSlot 9 function slot
-toldOf (UnknownFunction caller slot) = AtCall 10 caller slot
-toldOf (NoRoom function) = AtFunction 11 function
-toldOf (LineOutside function place) = AtRecord 12 function place
-toldOf NoRoot = Nowhere 13
-toldOf BrokenInfo = Nowhere 14
+-- ---- an answer
 
--- what was told, as the number and the places again
-abbrev pub replyIn : Told → Reply
-replyIn (Done a b c) = reply 0 a b c
-replyIn (AtTable number table) = reply number table 0 0
-replyIn (AtRow number table row) = reply number table row 0
-replyIn (AtSlot number function slot) = reply number function slot 0
-replyIn (AtCall number caller slot) = reply number caller slot 0
-replyIn (AtFunction number function) = reply number function 0 0
-replyIn (AtRecord number function place) = reply number function place 0
-replyIn (Nowhere number) = reply number 0 0 0
+-- the lines that name places: 27 none, 28 a row, 29 function and slot, 30 caller and slot, 31 a function, 32 function and line record
+abbrev pub placeLine : ℕ → ℕ
+placeLine n =
+    cond (eqb n 2) 28
+    (cond (eqb n 10) 30 (cond (eqb n 11) 31 (cond (eqb n 12) 32 (cond (ltb n 3) 27 (cond (ltb 12 n) 27 29)))))
+
+-- the head, then "link: slots, function records, line records; map step: relocations applied", or the reason and the places: 1 "table, 0";
+-- 2 "table, row"; 3 to 9 "function, slot"; 10 "caller, slot"; 11 "function being added, 0"; 12 "function, record". Line 18 ends in a
+-- table's number, and the table's name stands so many lines after it; line 52 is empty
+abbrev pub answerLines : Told → ℕ → ℕ → List ℕ
+answerLines t head done =
+    cond (eqb (t .number) 0) (head ∷ done ∷ 52 ∷ 52 ∷ 52 ∷ [])
+    (cond (ltb 2 (t .number)) (head ∷ t .number ∷ placeLine (t .number) ∷ 52 ∷ 52 ∷ [])
+    (head ∷ t .number ∷ 18 ∷ (18 + t .a) ∷ placeLine (t .number) ∷ []))
+
+-- three to each of those lines
+abbrev pub answerNumbers : Told → ℕ → List ℕ
+answerNumbers t root = root ∷ 0 ∷ 0 ∷ t .a ∷ t .b ∷ t .c ∷ t .a ∷ t .b ∷ 0 ∷ 0 ∷ 0 ∷ 0 ∷ t .b ∷ 0 ∷ 0 ∷ []
 
 -- ---- decimal digits, one at least, that a u32 holds
 

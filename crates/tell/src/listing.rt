@@ -1,13 +1,23 @@
 // What stands beside a slot of an image: the function and slot that it is a copy of, and its line record.
 ghost use mathlib.Core.Path.{_≡_};
-ghost use Prim.Native.Nat.{_*_, _-_, _≤_};
+ghost use Prim.Native.Nat.{_*_, _+_, _-_, _≤_};
 ghost use lib.ListN.{length};
 ghost use Rattle.rules.specs.declared.Table.the-variants.{FuncInfo, LineInfo};
 ghost use Rattle.rules.specs.Rows.{rowSize};
 ghost use Rattle.tell.specs.Listing.{lastAt, pieceAt, lineAt, notBefore, Stands, sourceOf, sourceAt, lineIn, lineOf};
-use rows::fields::FUNC_INFO_SIZE;
-use rows::fields::LINE_INFO_SIZE;
+ghost use Rattle.tell.specs.Listing.{copyLines, copyNumbers, RowOf};
+ghost use Rattle.rules.specs.Bytes.{little, u32At};
+ghost use Rattle.tell.specs.Room.{ownMost};
+use crate::text::BLANK;
+use crate::text::BYTES;
+use crate::text::COPY;
+use crate::text::NO_COPY;
+use crate::text::NO_PLACE;
+use crate::text::PLACE;
+use crate::words::Sentence;
 use rules::Found;
+use rules::limits::FUNC_INFO_SIZE;
+use rules::limits::LINE_INFO_SIZE;
 use wire::u32_at;
 
 // The last of the records from `from` to `end`, of `size` bytes each, that stands at or before a slot.
@@ -136,4 +146,90 @@ pub fn line_of(lines: &[u8], own: usize, start: u32, slot: u32) -> Line
     ensures { λ r. ⌜ r ≡ lineOf (now (lines .entry)) own start slot ⌝ }
 {
     line_in(lines, line_at(lines, own, start, slot), slot)
+}
+
+// A line of the listing: the slot's number and bytes, the function and slot that it is a copy of, and its line record.
+fn copy_row(slot: u32, low: u32, high: u32, function: u32, from: u32, line: Line) -> Sentence
+    ensures { λ r. ⌜ (r .lines ≡ copyLines line) × (r .numbers ≡ copyNumbers slot low high function from line) ⌝ }
+{
+    match line {
+        Line::At { file, line, column } => {
+            return Sentence {
+                lines: [BYTES, COPY, PLACE, BLANK, BLANK],
+                numbers: [
+                    slot,
+                    low,
+                    high,
+                    function,
+                    from,
+                    0,
+                    file,
+                    line,
+                    column,
+                    0,
+                    0,
+                    0,
+                    0,
+                    0,
+                    0,
+                ],
+            };
+        }
+        Line::Unknown => {
+            return Sentence {
+                lines: [BYTES, COPY, NO_PLACE, BLANK, BLANK],
+                numbers: [
+                    slot,
+                    low,
+                    high,
+                    function,
+                    from,
+                    0,
+                    0,
+                    0,
+                    0,
+                    0,
+                    0,
+                    0,
+                    0,
+                    0,
+                    0,
+                ],
+            };
+        }
+    }
+}
+
+// `own` is the number of the root's line records; `pieces` are the copies' starts and rows.
+pub fn row(own: usize, pieces: &[u8], image: &[u8], lines: &[u8], slot: usize) -> Sentence
+    requires { ⌜ (8 * slot + 8 ≤ length (now image)) × (length (now image) ≤ ownMost) ⌝ }
+    ensures { λ r. ⌜ RowOf own (now (lines .entry)) slot (u32At little (now (image .entry)) (8 * slot))
+        (u32At little (now (image .entry)) (8 * slot + 4)) (sourceAt (now (pieces .entry)) slot) (r .lines) (r .numbers) ⌝ }
+{
+    let low = u32_at(image, 8 * slot);
+    let high = u32_at(image, 8 * slot + 4);
+    let at = slot as u32;
+    let found = source_at(pieces, at);
+    match found {
+        Source::Copy {
+            function,
+            start,
+            slot: from,
+        } => {
+            return copy_row(
+                at,
+                low,
+                high,
+                function,
+                from,
+                line_of(lines, own, start, at),
+            );
+        }
+        Source::Unknown => {
+            return Sentence {
+                lines: [BYTES, NO_COPY, BLANK, BLANK, BLANK],
+                numbers: [at, low, high, 0, 0, 0, 0, 0, 0, 0, 0, 0, 0, 0, 0],
+            };
+        }
+    }
 }

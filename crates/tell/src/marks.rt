@@ -6,13 +6,15 @@ ghost use lib.ListN.{length};
 ghost use Rattle.rules.specs.declared.Table.the-variants.{Functions, FuncInfo};
 ghost use Rattle.rules.specs.Rows.{rowSize};
 ghost use Rattle.tell.specs.Marks.{markedRow, markedRows, markRecord, markRecords};
-use rows::fields::FUNC_INFO_SIZE;
-use rows::fields::FUNCTION_SIZE;
+ghost use Rattle.tell.specs.Room.{ownMost};
+use rules::limits::FUNC_INFO_SIZE;
+use rules::limits::FUNCTION_SIZE;
 use wire::copy;
 use wire::put_u32;
 
 fn mark_row(functions: &[u8], marked: &mut [u8], k: usize)
-    requires { ⌜ (rowSize Functions * k + rowSize Functions ≤ length (now functions)) × (rowSize Functions * k + rowSize Functions ≤ length (now marked)) ⌝ }
+    requires { ⌜ (rowSize Functions * k + rowSize Functions ≤ length (now functions))
+        × (rowSize Functions * k + rowSize Functions ≤ length (now marked)) ⌝ }
     ensures { λ _. ⌜ now (marked .exit) ≡ markedRow (now (functions .entry)) (now (marked .entry)) k ⌝ }
 {
     let at = FUNCTION_SIZE * k;
@@ -34,7 +36,7 @@ pub fn mark_rows(functions: &[u8], marked: &mut [u8], n: usize)
 }
 
 fn mark_record(records: &mut [u8], k: usize)
-    requires { ⌜ (rowSize FuncInfo * k + rowSize FuncInfo ≤ length (now records)) × (rowSize FuncInfo * k + rowSize FuncInfo ≤ 65536) ⌝ }
+    requires { ⌜ (rowSize FuncInfo * k + rowSize FuncInfo ≤ length (now records)) × (rowSize FuncInfo * k + rowSize FuncInfo ≤ ownMost) ⌝ }
     ensures { λ _. ⌜ now (records .exit) ≡ markRecord (now (records .entry)) k ⌝ }
 {
     let at = FUNC_INFO_SIZE * k;
@@ -44,7 +46,7 @@ fn mark_record(records: &mut [u8], k: usize)
 
 // The n records: row k at slot 0, with type k.
 pub fn mark_records(records: &mut [u8], n: usize)
-    requires { ⌜ (rowSize FuncInfo * n ≤ length (now records)) × (rowSize FuncInfo * n ≤ 65536) ⌝ }
+    requires { ⌜ (rowSize FuncInfo * n ≤ length (now records)) × (rowSize FuncInfo * n ≤ ownMost) ⌝ }
     ensures { λ _. ⌜ now (records .exit) ≡ markRecords n 0 (now (records .entry)) ⌝ }
 {
     let mut k = 0;

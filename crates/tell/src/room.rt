@@ -1,6 +1,7 @@
 // bark's own buffers, in bytes. They are counted here, and nowhere else.
 ghost use mathlib.Core.Path.{_≡_};
 ghost use Prim.Native.Nat.{_≤_};
+ghost use Rattle.tell.specs.Room.{ownMost};
 
 // Tables 1 to 8. Tables 1, 3, 5 and 7 have room for all the rows that document 01 allows.
 pub const CODE: usize = 256;
@@ -31,7 +32,7 @@ pub const MARKS: usize = 512;
 
 pub const PIECES: usize = 520;
 
-// The two files' lengths, their paths, the root's digits.
+// The two files' lengths, their paths, the root's digits, a line of words.
 pub const TABLE_LENGTHS: usize = 32;
 
 pub const IMAGE_LENGTHS: usize = 12;
@@ -40,27 +41,45 @@ pub const PATH: usize = 512;
 
 pub const ROOT: usize = 16;
 
+pub const LINE: usize = 160;
+
+// A tables file as it is held: the lengths and all tables but the sixth.
+pub const FILE: usize = TABLE_LENGTHS
+    + CODE
+    + SYMBOLS
+    + FUNCTIONS
+    + RELOCATIONS
+    + MAPS
+    + FUNC_INFO
+    + LINE_INFO;
+
+// What a tables file may need of each.
+pub const ROOM: [u32; 8] = [
+    CODE as u32,
+    SYMBOLS as u32,
+    FUNCTIONS as u32,
+    RELOCATIONS as u32,
+    MAPS as u32,
+    INSTRUCTIONS as u32,
+    FUNC_INFO as u32,
+    LINE_INFO as u32,
+];
+
 // Table 3 is held twice, as it was read and marked, and there are two paths.
 pub fn own_bytes() -> usize
-    ensures { λ r. ⌜ (r ≡ 64836) × (r ≤ 65536) ⌝ }
+    ensures { λ r. ⌜ (r ≡ 64996) × (r ≤ ownMost) ⌝ }
 {
-    CODE
-        + SYMBOLS
-        + FUNCTIONS
-        + FUNCTIONS
-        + RELOCATIONS
-        + MAPS
+    FILE
         + INSTRUCTIONS
-        + FUNC_INFO
-        + LINE_INFO
+        + FUNCTIONS
+        + MARKS
+        + PIECES
         + IMAGE
         + IMAGE_FUNC_INFO
         + IMAGE_LINE_INFO
-        + MARKS
-        + PIECES
-        + TABLE_LENGTHS
         + IMAGE_LENGTHS
         + PATH
         + PATH
         + ROOT
+        + LINE
 }

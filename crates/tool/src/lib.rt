@@ -1,10 +1,11 @@
 // The tool bark: reads a tables file, does the map step and the link, writes an image file, and says what it did.
-mod seal;
+mod work;
 
 ghost use Prim.Native.Nat.{_≤_};
 use clerk::status::USAGE;
 use clerk::telling;
 use tell::room::ROOT;
+use tell::text::NO_NUMBER;
 use tell::words::Number;
 use tell::words::parse;
 
@@ -25,8 +26,8 @@ pub extern "C" fn bark_run() -> u32
     }
     let parsed = root();
     let Number::Whole(row) = parsed else {
-        telling::note(b"the root is not a number: it is a row of table 3, in decimal digits");
+        telling::complain(NO_NUMBER);
         return USAGE;
     };
-    seal::bark(row)
+    work::bark(row)
 }

@@ -3,7 +3,7 @@
 use mathlib.Core.Path.{_≡_, refl, sym, ap, _∙_, subst}
 use mathlib.Core.Logic.{_⊎_, inl, inr}
 use mathlib.Core.Bool.{Bool, true, false, cond, _||_}
-use mathlib.Core.List.{List, [], _∷_}
+use mathlib.Core.List.{List}
 use Prim.Native.Nat.{ℕ, zero, suc, _-_}
 use native.Mathlib.Omega.{arith}
 use lib.Dec.{ltb}
@@ -11,10 +11,10 @@ use lib.ListN.{length}
 use borrow.Author.Tests.{le-ltb}
 use Rattle.rules.specs.Object.{Insn, Object}
 use Rattle.rules.specs.Faithful.{Piece}
-use Rattle.rules.specs.Walk.{Walk, standing, stopped, ended, left, step, inSource, sourceWalk, imageWalk}
+use Rattle.rules.specs.Walk.{Walk, left, step, inSource, sourceWalk, imageWalk}
 use Rattle.rules.specs.Together as both
 use Rattle.rules.specs.Together.{Pairwise, no-frames, frame, Together, SamePlace, KeepsPath}
-use Rattle.walk.specs.Runs.{stands, stops, leaves, lacks, deeper, stood, runsOut, ran}
+use Rattle.walk.specs.Runs.{stands, stops, lacks, deeper, stood, runsOut, ran}
 use Rattle.walk.specs.Alike.{Alike, both-stand, both-stop, both-end, both-lack, first-left}
 
 never : {A : Type 0} → false ≡ true → A

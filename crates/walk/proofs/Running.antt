@@ -4,15 +4,15 @@ use mathlib.Core.Path.{_≡_, refl, sym, ap, _∙_, subst}
 use mathlib.Core.Logic.{_⊎_, inl, inr}
 use mathlib.Core.Bool.{Bool, true, false, cond, _||_}
 use mathlib.Core.Option.{Option, none, some}
-use mathlib.Core.List.{List, [], _∷_}
-use Prim.Native.Nat.{ℕ, zero, suc, _+_, _≤_, _<_}
+use mathlib.Core.List.{List, []}
+use Prim.Native.Nat.{ℕ, zero, suc, _≤_, _<_}
 use native.Mathlib.Nat.{eq-or-lt-of-le}
 use native.Mathlib.Omega.{arith}
 use lib.Dec.{ltb}
 use lib.ListN.{length}
 use borrow.Author.Tests.{le-ltb}
-use Rattle.rules.specs.Walk.{Walk, standing, stopped, ended, left, Move, goes, chooses, enters, returns, stuck, arriving, moving, step, walk}
-use Rattle.walk.specs.Runs.{answersIn, answersFrom, Stood, stands, stops, ends, leaves, lacks, deeper, stood, stoodIn, runsOut, ran, Frames, stackOf, walkFrom, writing, framesAfter, framesThrough, Stepped, Ran}
+use Rattle.rules.specs.Walk.{Walk, standing, stopped, ended, left, Move, goes, chooses, enters, returns, stuck, arriving, step, walk}
+use Rattle.walk.specs.Runs.{answersIn, Stood, stands, stops, ends, leaves, lacks, deeper, stood, stoodIn, runsOut, Frames, walkFrom, writing, framesAfter, framesThrough, Stepped, Ran}
 use Rattle.walk.proofs.Runs.{FrameLaws, Kept, stays, halts, finishes, is-out, sinks, moving-kept, stack-length, standing-is, stopped-is}
 
 -- from one number on

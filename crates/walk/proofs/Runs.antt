@@ -11,8 +11,8 @@ use lib.Dec.{eqb, ltb}
 use lib.ListN.{length, getD, drop, length-drop, drop-of-length-le}
 use lib.Seq.{drop-cons}
 use borrow.Author.Tests.{lt-ltb, le-ltb, ltb-true, ltb-false, eq-eqb, ne-eqb}
-use Rattle.rules.specs.Walk.{Walk, standing, stopped, ended, left, Move, goes, chooses, enters, returns, stuck, arriving, arrive, choosing, returning, moving, step}
-use Rattle.walk.specs.Runs.{answersIn, answersFrom, Stood, stands, stops, ends, leaves, lacks, deeper, stood, stoodIn, Frames, stackOf, walkFrom, writing, framesAfter, Stepped}
+use Rattle.rules.specs.Walk.{Walk, standing, stopped, ended, left, Move, goes, chooses, enters, returns, stuck, arriving, choosing, moving}
+use Rattle.walk.specs.Runs.{answersIn, answersFrom, Stood, stands, stops, ends, leaves, lacks, deeper, stoodIn, Frames, stackOf, walkFrom, writing, Stepped}
 
 -- what frames keep: the place put last, and all below it
 pub record FrameLaws {Place Lent : Type 0} (frames : Frames Place Lent) : Type 0 where

@@ -8,11 +8,12 @@ use lib.ListN.{length, getD, set}
 use Rattle.rules.specs.declared.Found.{Found}
 use Rattle.rules.specs.declared.Found.the-variants as found
 use Rattle.rules.specs.Lookups.{foundOf}
+use Rattle.rules.specs.Object.{Insn}
 use Rattle.rules.specs.Bytes.{slotSize}
 use Rattle.rules.specs.Rows.{mostImageSlots}
 use Rattle.rules.specs.Walk.{within, inImage, imageWalk}
 use Rattle.walk.specs.Moves.{Ground, imageIn}
-use Rattle.walk.specs.Runs.{answersIn, Stood, stands, stops, ends, leaves, lacks, Frames, Ran}
+use Rattle.walk.specs.Runs.{answersIn, Stood, stands, stops, ends, leaves, lacks, Frames, walkFrom, Stepped, Ran}
 use Rattle.walk.specs.declared.ImageRun.{ImageRun}
 use Rattle.walk.specs.declared.ImageRun.the-variants.{Came, TooLong}
 use Rattle.walk.specs.declared.Stand.{Stand}
@@ -48,10 +49,18 @@ pub record Stepping (kinds image : List ℕ) (slots : ℕ) (frames : List ℤ) (
   pub deep : depth ≤ length frames
   pub few : taken ≤ length answers
 
+-- a step of the image walk, and at most so many from its first slot: the frames before and after, and what it comes to
+abbrev pub ImageStepped : List Insn → List ℤ → List ℤ → List ℕ → ℤ → ℕ → ℕ → Stand → Type 0
+ImageStepped image frames after answers at depth taken s =
+    Stepped imageFrames (inImage image) (length answers) frames after (walkFrom imageFrames frames answers at depth taken) (stoodOf s)
+
+abbrev pub ImageRan : List Insn → List ℤ → List ℤ → List ℕ → ℕ → Stand → Type 0
+ImageRan image frames after answers limit s =
+    Ran imageFrames (inImage image) (length answers) frames after (imageWalk image (answersIn answers)) limit (stoodOf s)
+
 -- of an image's whole slots, which are no more than an image may hold
 abbrev pub ImageWalked : List ℕ → List ℤ → List ℤ → List ℕ → ℕ → ImageRun → Type 0
 ImageWalked image frames after answers limit (Came s) =
     (length image / slotSize ≤ mostImageSlots)
-    × Ran imageFrames (inImage (imageIn image (length image / slotSize))) (length answers) frames after
-    (imageWalk (imageIn image (length image / slotSize)) (answersIn answers)) limit (stoodOf s)
+    × ImageRan (imageIn image (length image / slotSize)) frames after answers limit s
 ImageWalked image frames after answers limit TooLong = (mostImageSlots < length image / slotSize) × (after ≡ frames)

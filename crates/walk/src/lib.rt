@@ -9,17 +9,19 @@ use insn::slot_at;
 use rules::Found;
 use rules::Kind;
 use rules::Slot;
+use rules::limits::INSTRUCTION_SIZE;
+use rules::limits::MOST_IMAGE_SLOTS;
 ghost use mathlib.Core.Path.{_≡_};
 ghost use Prim.Native.Nat.{_+_, _*_, _≤_, _<_};
 ghost use lib.IntN.{pos, _+ℤ_};
 ghost use lib.ListN.{length};
 ghost use Rattle.rules.specs.Bytes.{little, slotIn, slotSize};
+ghost use Rattle.rules.specs.Lent.{was};
 ghost use Rattle.rules.specs.Lookups.{foundOf};
-ghost use Rattle.rules.specs.Walk.{inImage, imageWalk, within};
+ghost use Rattle.rules.specs.Walk.{inImage, within};
 ghost use Rattle.insn.specs.Kinds.{codes};
 ghost use Rattle.walk.specs.Moves.{moveOf, Ground, imageIn, leadsIn};
-ghost use Rattle.walk.specs.Runs.{answersIn, walkFrom, Stepped, Ran};
-ghost use Rattle.walk.specs.Steps.{stoodOf, imageFrames, arrivedAt, framelessAt, Stepping, ImageWalked};
+ghost use Rattle.walk.specs.Steps.{arrivedAt, framelessAt, Stepping, ImageStepped, ImageRan, ImageWalked};
 
 // Where a slot leads; places outside are places too.
 pub enum Move {
@@ -43,9 +45,6 @@ pub enum Stand {
     NoFrame,
 }
 
-// What an image may hold.
-const MOST_SLOTS: usize = 4096;
-
 pub enum ImageRun {
     Came(Stand),
     // more slots than an image may hold
@@ -62,7 +61,7 @@ pub fn ahead(slot: u32, by: u32, d: i32) -> i64
 // The offset, widened to an immediate's size.
 pub fn jump(code: &[u8], here: Slot) -> i32
     requires { ⌜ slotSize * here .0 + slotSize ≤ length (now code) ⌝ }
-    ensures { λ r. ⌜ r ≡ slotIn little (now (code .entry)) (here .0) .offset ⌝ }
+    ensures { λ r. ⌜ r ≡ slotIn little (was code) (here .0) .offset ⌝ }
 {
     offset(code, here) as i32
 }
@@ -83,7 +82,7 @@ pub fn slot_in(at: i64, slots: u32) -> Found
 // The slot that lies at `here` of some code, as slot `slot` of its function or image; a call as an image has it.
 pub fn leads_at(kinds: &[u8; 256], code: &[u8], here: Slot, slot: u32) -> Move
     requires { ⌜ (now kinds ≡ codes) × (slotSize * here .0 + slotSize ≤ length (now code)) ⌝ }
-    ensures { λ r. ⌜ moveOf r ≡ leadsIn (slotIn little (now (code .entry)) (here .0)) slot ⌝ }
+    ensures { λ r. ⌜ moveOf r ≡ leadsIn (slotIn little (was code) (here .0)) slot ⌝ }
 {
     let kind = kind_of(kinds, opcode(code, here));
     match kind {
@@ -122,7 +121,7 @@ pub fn leads_at(kinds: &[u8; 256], code: &[u8], here: Slot, slot: u32) -> Move
 
 pub fn image_move(kinds: &[u8; 256], image: &[u8], slots: u32, at: i64) -> Move
     requires { ⌜ Ground (now kinds) (now image) slots ⌝ }
-    ensures { λ r. ⌜ moveOf r ≡ inImage (imageIn (now (image .entry)) slots) at ⌝ }
+    ensures { λ r. ⌜ moveOf r ≡ inImage (imageIn (was image) slots) at ⌝ }
 {
     let found = slot_in(at, slots);
     match found {
@@ -176,7 +175,7 @@ pub fn image_step(
     taken: usize,
 ) -> Stand
     requires { ⌜ Stepping (now kinds) (now image) slots (now frames) (now answers) depth taken ⌝ }
-    ensures { λ r. ⌜ Stepped imageFrames (inImage (imageIn (now (image .entry)) slots)) (length (now (answers .entry))) (now (frames .entry)) (now (frames .exit)) (walkFrom imageFrames (now (frames .entry)) (now (answers .entry)) at depth taken) (stoodOf r) ⌝ }
+    ensures { λ r. ⌜ ImageStepped (imageIn (was image) slots) (was frames) (now (frames .exit)) (was answers) at depth taken r ⌝ }
 {
     let found = image_move(kinds, image, slots, at);
     match found {
@@ -225,7 +224,7 @@ pub fn image_run(
     limit: usize,
 ) -> Stand
     requires { ⌜ Ground (now kinds) (now image) slots ⌝ }
-    ensures { λ r. ⌜ Ran imageFrames (inImage (imageIn (now (image .entry)) slots)) (length (now (answers .entry))) (now (frames .entry)) (now (frames .exit)) (imageWalk (imageIn (now (image .entry)) slots) (answersIn (now (answers .entry)))) limit (stoodOf r) ⌝ }
+    ensures { λ r. ⌜ ImageRan (imageIn (was image) slots) (was frames) (now (frames .exit)) (was answers) limit r ⌝ }
 {
     if slots == 0 {
         return Stand::Left;
@@ -236,36 +235,23 @@ pub fn image_run(
     let mut k = 0;
     while k < limit {
         let next = image_step(kinds, image, slots, frames, answers, at, depth, taken);
-        match next {
-            Stand::Standing(place, used, told) => {
-                at = place;
-                depth = used;
-                taken = told;
-                k += 1;
-            }
-            Stand::Stopped(place, used) => {
-                return Stand::Stopped(place, used);
-            }
-            Stand::Ended(place) => {
-                return Stand::Ended(place);
-            }
-            Stand::Left => {
-                return Stand::Left;
-            }
-            Stand::NoFrame => {
-                return Stand::NoFrame;
-            }
-        }
+        let Stand::Standing(place, used, told) = next else {
+            return next;
+        };
+        at = place;
+        depth = used;
+        taken = told;
+        k += 1;
     }
     Stand::Standing(at, depth, taken)
 }
 
 // The walk of an image's whole slots, from its first one, at most `limit` steps. Any bytes may be offered.
 pub fn walk_image(image: &[u8], frames: &mut [i64], answers: &[u8], limit: usize) -> ImageRun
-    ensures { λ r. ⌜ ImageWalked (now (image .entry)) (now (frames .entry)) (now (frames .exit)) (now (answers .entry)) limit r ⌝ }
+    ensures { λ r. ⌜ ImageWalked (was image) (was frames) (now (frames .exit)) (was answers) limit r ⌝ }
 {
-    let slots = image.len() / 8;
-    if slots > MOST_SLOTS {
+    let slots = image.len() / INSTRUCTION_SIZE;
+    if slots > MOST_IMAGE_SLOTS {
         return ImageRun::TooLong;
     }
     let kinds = table();

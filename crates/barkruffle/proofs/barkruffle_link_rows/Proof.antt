@@ -42,7 +42,7 @@ use denote.Triple.Table.{entered, cited}
 use denote.Triple.Walked.{says, Stays, stay-dropped, gave-slice, walkOf, Walks, ends-at, walked, goes-dropped, goes-gave-slice, walk-meets}
 use denote.Exit.{yes}
 use Rattle.rules.specs.Rows.{linkOffer}
-use Rattle.linker.specs.Linker.{buffers, lentBy}
+use Rattle.rules.specs.Lent.{buffers, lentBy}
 use Rattle.symbols.specs.declared.Symbol.{Symbol}
 use Rattle.symbols.specs.Symbols.{bytesOf, bytesNeeded, laidIn}
 use Rattle.symbols.proofs.Again.{LentAgain, lends-again, comes-back}

@@ -3,7 +3,7 @@
 use mathlib.Core.Path.{sym}
 use Prim.Native.Nat.{_*_}
 use lib.Seq.{length-take-le}
-use Rattle.linker.specs.Linker.{buffers, lentBy}
+use Rattle.rules.specs.Lent.{buffers, lentBy}
 use borrow.Author.Needs.{needs}
 use Rattle.barkruffle.proofs.Rows.{linked-told, short-told}
 use Rattle.barkruffle.proofs.link_laid.Statement.{statement}

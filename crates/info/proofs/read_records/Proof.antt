@@ -47,14 +47,19 @@ wipe-requires c κs = search needs
 is-whole-requires : tie.Need-is-whole-requires
 is-whole-requires c κs = search needs
 
+refusal-requires : tie.Need-refusal-requires
+refusal-requires c κs = search needs
+
 same-length : tie.Need-same-length
 same-length c = search needs
 
 returns : tie.Need-returns
 returns c =
-    let a = start (c .before) .args in
-    let e = read-broken little (a .table) (asked (c .before)) (length (a .out .now)) (sym (c .before .is-whole .ensures) ∙ not-true _ (c .if1 .taken)) in
-    record { reply = sym (ap (λ (v : Read). v .reply) e); out = zeros (c .before) ∙ sym (ap (λ (v : Read). v .out) e) }
+    let t = c .before in
+    let w = t .before in
+    let a = start w .args in
+    let e = read-broken little (a .table) (asked w) (length (a .out .now)) (sym (w .is-whole .ensures) ∙ not-true _ (t .if1 .taken)) in
+    record { reply = c .refusal .ensures ∙ sym (ap (λ (v : Read). v .reply) e); out = zeros w ∙ sym (ap (λ (v : Read). v .out) e) }
 
 row-size-requires : tie.Need-row-size-requires
 row-size-requires c κs = search needs
@@ -62,17 +67,21 @@ row-size-requires c κs = search needs
 mul-if2 : tie.Need-mul-if2
 mul-if2 c = record { fits = product (start (c .before .before) .fits .count .fits) (omega (arith, c .row-size .ensures .1 .1)) }
 
+refusal-requires-2 : tie.Need-refusal-requires-2
+refusal-requires-2 c κs = search needs
+
 same-length-2 : tie.Need-same-length-2
 same-length-2 c = search needs
 
 returns-2 : tie.Need-returns-2
 returns-2 c =
-    let r = c .before in
+    let t = c .before in
+    let r = t .before in
     let w = r .before .before in
     let a = start w .args in
-    let short : length (a .out .now) < a .count * rowSize (a .table) = omega (arith, c .if2 .taken, wiped w .wipe .kept .0, rows-take r) in
+    let short : length (a .out .now) < a .count * rowSize (a .table) = omega (arith, t .if2 .taken, wiped w .wipe .kept .0, rows-take r) in
     let e = read-short little (a .table) (asked w) (whole (r .before)) (length (a .out .now)) short in
-    record { reply = sym (ap (λ (v : Read). v .reply) e); out = zeros w ∙ sym (ap (λ (v : Read). v .out) e) }
+    record { reply = c .refusal2 .ensures ∙ sym (ap (λ (v : Read). v .reply) e); out = zeros w ∙ sym (ap (λ (v : Read). v .out) e) }
 
 put-rows-requires : tie.Need-put-rows-requires
 put-rows-requires c κs =
@@ -110,10 +119,12 @@ read-records-spec =
     (tie.spec
     wipe-requires
     is-whole-requires
+    refusal-requires
     same-length
     returns
     row-size-requires
     mul-if2
+    refusal-requires-2
     same-length-2
     returns-2
     put-rows-requires

@@ -10,17 +10,30 @@ use Rattle.info.proofs.record_number.Tie as tie
 is-whole-requires : tie.Need-is-whole-requires
 is-whole-requires c κs = search needs
 
+refusal-requires : tie.Need-refusal-requires
+refusal-requires c κs = search needs
+
 returns : tie.Need-returns
 unfolding recordReply
-returns c = simp (sym (c .before .is-whole .ensures) ∙ not-true _ (c .if1 .taken))
+returns c =
+    let t = c .before in
+    simp (sym (t .before .is-whole .ensures) ∙ not-true _ (t .if1 .taken)) (c .refusal .ensures)
+
+refusal-requires-2 : tie.Need-refusal-requires-2
+refusal-requires-2 c κs = search needs
 
 returns-2 : tie.Need-returns-2
 unfolding recordReply
-returns-2 c = simp (sym (c .before .before .is-whole .ensures) ∙ not-false _ (c .before .if1 .left), le-ltb _ _ (c .if2 .taken))
+returns-2 c =
+    let t = c .before in
+    let e = t .before in
+    simp (sym (e .before .is-whole .ensures) ∙ not-false _ (e .if1 .left), le-ltb _ _ (t .if2 .taken)) (c .refusal2 .ensures)
 
 returns-3 : tie.Need-returns-3
 unfolding recordReply
-returns-3 c = simp (sym (c .before .before .is-whole .ensures) ∙ not-false _ (c .before .if1 .left), lt-ltb _ _ (c .if2 .left))
+returns-3 c =
+    let e = c .before in
+    simp (sym (e .before .is-whole .ensures) ∙ not-false _ (e .if1 .left), lt-ltb _ _ (c .if2 .left))
 
 pub record-number-spec : {M : Type 1} → statement M
-record-number-spec = tie.close (tie.spec is-whole-requires returns returns-2 returns-3)
+record-number-spec = tie.close (tie.spec is-whole-requires refusal-requires returns refusal-requires-2 returns-2 returns-3)

@@ -1,7 +1,8 @@
 -- No map, then no wide load, then the map's data.
 -- Assumes nothing.
 use mathlib.Core.Path.{_≡_, sym, _∙_}
-use mathlib.Core.Option.{some}
+use mathlib.Core.Option.{Option, none, some}
+use Prim.Native.Nat.{ℕ}
 use native.Mathlib.Omega.{arith}
 use borrow.Author.Needs.{needs}
 use borrow.Author.Tests.{not-true, not-false}
@@ -11,11 +12,18 @@ use Rattle.judge.proofs.Laws.{map-inside, no-map-says, not-wide-says, m
 use Rattle.judge.proofs.by_map.Statement.{statement}
 use Rattle.judge.proofs.by_map.Tie as tie
 
-found : (c : tie.After-known-told) → mapFound (c .before .before .before .before .before .args .maps .now) (c .before .before .before .before .before .args .symbol)
-    (c .before .before .before .before .before .args .home) ≡ some (c .before .m .given .0 .0)
-found c =
-    let a = c .before .before .before .before .before .args in
-    found-some (mapFound (a .maps .now) (a .symbol) (a .home)) _ (sym (c .before .before .before .find-map .ensures) ∙ c .before .m .given .1)
+abbrev start : tie.After-find-map → tie.Start
+start n = n .before .before
+
+abbrev looked : tie.After-find-map → Option ℕ
+looked n = mapFound (start n .args .maps .now) (start n .args .symbol) (start n .args .home)
+
+-- at the test: a map was found
+abbrev looks : tie.After-struct-known → tie.After-find-map
+looks t = t .before .before .before .before
+
+found : (t : tie.After-struct-known) → looked (looks t) ≡ some (t .before .before .m .given .0 .0)
+found t = found-some (looked (looks t)) _ (sym (looks t .find-map .ensures) ∙ t .before .before .m .given .1)
 
 find-map-requires : tie.Need-find-map-requires
 find-map-requires c κs = search needs
@@ -26,28 +34,36 @@ enum-known-m c = search needs
 enum-told : tie.Need-enum-told
 enum-told c = search needs
 
+refused-requires : tie.Need-refused-requires
+refused-requires c κs = search needs
+
 returns : tie.Need-returns
 returns c =
-    let a = c .before .before .before .before .args in
+    let n = c .before .before .before in
+    let a = start n .args in
     no-map-says (a .maps .now) (a .symbol) (a .home) (a .address .0) (a .site)
-    (found-none (mapFound (a .maps .now) (a .symbol) (a .home)) (sym (c .before .before .find-map .ensures) ∙ c .enum-told .given .1))
+    (found-none (looked n) (sym (n .find-map .ensures) ∙ c .before .enum-told .given .1)) _ (c .refused .ensures)
+
+refused-requires-2 : tie.Need-refused-requires-2
+refused-requires-2 c κs = search needs
 
 returns-2 : tie.Need-returns-2
 returns-2 c =
-    let a = c .before .before .before .before .before .before .before .args in
-    not-wide-says (a .maps .now) (a .symbol) (a .home) (a .address .0) (a .site) _ (found (c .before .before)) (not-true _ (c .if1 .taken))
+    let t = c .before .before in
+    let a = start (looks t) .args in
+    not-wide-says (a .maps .now) (a .symbol) (a .home) (a .address .0) (a .site) _ (found t) (not-true _ (c .before .if1 .taken)) _ (c .refused2 .ensures)
 
 by-data-requires : tie.Need-by-data-requires
 by-data-requires c κs =
-    let s = c .before .before .before .before .before .before .before in
-    let a = s .args in
-    let l = map-inside (a .maps .now) (a .symbol) (a .home) _ (found (c .before .before)) in
+    let s = start (looks (c .before)) in
+    let l = map-inside (s .args .maps .now) (s .args .symbol) (s .args .home) _ (found (c .before)) in
     record { map-inside = omega arith; address-low = s .pre .1; wide-load = not-false _ (c .if1 .left) }
 
 returns-3 : tie.Need-returns-3
 returns-3 c =
-    let a = c .before .before .before .before .before .before .before .before .args in
-    map-says (a .maps .now) (a .symbol) (a .home) (a .address .0) (a .site) _ (found (c .before .before .before)) (not-false _ (c .before .if1 .left)) _ (c .by-data .ensures)
+    let t = c .before .before in
+    let a = start (looks t) .args in
+    map-says (a .maps .now) (a .symbol) (a .home) (a .address .0) (a .site) _ (found t) (not-false _ (c .before .if1 .left)) _ (c .by-data .ensures)
 
 pub by-map-spec : {M : Type 1} → statement M
 by-map-spec =
@@ -56,7 +72,9 @@ by-map-spec =
     find-map-requires
     enum-known-m
     enum-told
+    refused-requires
     returns
+    refused-requires-2
     returns-2
     by-data-requires
     returns-3)

@@ -1,52 +1,69 @@
 -- Before the function, past its end, off the grid; else the slot is read and its symbol judges.
 -- Assumes nothing.
-use mathlib.Core.Path.{_≡_}
-use Prim.Native.Nat.{_+_, _-_, _*_, _%_, _≤_, _<_}
+use mathlib.Core.Path.{_≡_, ap, _∙_}
+use Prim.Native.Nat.{ℕ, _+_, _-_, _*_, _%_, _≤_, _<_}
 use native.Mathlib.Omega.{arith}
 use borrow.Author.Needs.{needs}
-use Rattle.rules.specs.Rows.{functionSlots, functionOffset, relocationSymbol, relocationOffset}
-use Rattle.judge.specs.Verdicts.{symbolVerdict, Says, SiteAt}
-use Rattle.judge.specs.Judged.{Lent, lent, slotOf}
+use Rattle.rules.specs.declared.Cause.the-variants.{InvalidRelocationOffset}
+use Rattle.rules.specs.Answers.{reply, numberOf}
+use Rattle.rules.specs.Rows.{Offered, functionSlots, functionOffset, relocationSymbol, relocationOffset}
+use Rattle.rules.specs.Lent.{offeredMaps}
+use Rattle.judge.specs.Verdicts.{symbolVerdict, Says}
+use Rattle.judge.specs.Judged.{slotOf}
 use Rattle.judge.proofs.Places.{slots-high, row-low, first-low, in-table, before-judges, past-judges, off-judges, site-judges}
 use Rattle.judge.proofs.judge.Statement.{statement}
 use Rattle.judge.proofs.judge.Tie as tie
 
-abbrev lend : tie.Start → Lent
-lend s = lent (s .args .code .now) (s .args .symbols .now) (s .args .functions .now) (s .args .relocations .now) (s .args .maps .now)
+abbrev offered : tie.Start → Offered
+offered s = offeredMaps (s .args .code) (s .args .symbols) (s .args .functions) (s .args .relocations) (s .args .maps) (s .args .instructions)
 
-starts-before : (c : tie.Else1) → functionOffset (c .before .before .before .before .before .before .before .before .before .before .args .functions .now) (c .before .before .before .before .before .before .before .before .before .before .args .row) ≤ relocationOffset (c .before .before .before .before .before .before .before .before .before .before .args .relocations .now) (c .before .before .before .before .before .before .before .before .before .before .args .k)
-starts-before c = omega (arith, c .if1 .left, c .before .before .function-offset .ensures, c .before .before .before .relocation-offset .ensures)
+-- ---- the three numbers are read
+abbrev start : tie.After-function-slots → tie.Start
+start n = n .before .before .before .before .before .before .before .before .before
 
--- where the function ends
-size-is : (c : tie.After-struct-known) → c .before .to-offset .result .0 ≡ 8 * functionSlots (c .before .before .before .before .before .before .before .before .before .before .before .before .before .args .functions .now) (c .before .before .before .before .before .before .before .before .before .before .before .before .before .args .row)
-size-is c = omega (arith, c .before .to-offset .ensures .0, c .before .before .slot-at .ensures, c .before .before .before .before .function-slots .ensures)
+abbrev offset : tie.After-function-slots → ℕ
+offset n = relocationOffset (start n .args .relocations .now) (start n .args .k)
 
-past : (c : tie.Then2) → functionOffset (c .before .before .before .before .before .before .before .before .before .before .before .before .before .before .args .functions .now) (c .before .before .before .before .before .before .before .before .before .before .before .before .before .before .args .row) + 8 * functionSlots (c .before .before .before .before .before .before .before .before .before .before .before .before .before .before .args .functions .now) (c .before .before .before .before .before .before .before .before .before .before .before .before .before .before .args .row)
-    ≤ relocationOffset (c .before .before .before .before .before .before .before .before .before .before .before .before .before .before .args .relocations .now) (c .before .before .before .before .before .before .before .before .before .before .before .before .before .before .args .k)
-past c = omega (arith, c .if2 .taken, size-is (c .before), c .before .before .before .before .before .before .function-offset .ensures, c .before .before .before .before .before .before .before .relocation-offset .ensures, starts-before (c .before .before .before .before))
+abbrev base : tie.After-function-slots → ℕ
+base n = functionOffset (start n .args .functions .now) (start n .args .row)
 
-module _ (c : tie.After-to-slot) where
-  slot-is : c .to-slot .result .0 ≡ slotOf (lend (c .before .before .before .before .before .before .before .before .before .before .before .before .before .before .before .before)) (c .before .before .before .before .before .before .before .before .before .before .before .before .before .before .before .before .args .row) (c .before .before .before .before .before .before .before .before .before .before .before .before .before .before .before .before .args .k)
-  slot-is = omega (arith, c .to-slot .ensures, c .before .offset-at .ensures, c .before .before .before .before .before .before .before .before .function-offset .ensures, c .before .before .before .before .before .before .before .before .before .relocation-offset .ensures)
+abbrev slots : tie.After-function-slots → ℕ
+slots n = functionSlots (start n .args .functions .now) (start n .args .row)
 
-  ends-after : relocationOffset (c .before .before .before .before .before .before .before .before .before .before .before .before .before .before .before .before .args .relocations .now) (c .before .before .before .before .before .before .before .before .before .before .before .before .before .before .before .before .args .k)
-      < functionOffset (c .before .before .before .before .before .before .before .before .before .before .before .before .before .before .before .before .args .functions .now) (c .before .before .before .before .before .before .before .before .before .before .before .before .before .before .before .before .args .row) + 8 * functionSlots (c .before .before .before .before .before .before .before .before .before .before .before .before .before .before .before .before .args .functions .now) (c .before .before .before .before .before .before .before .before .before .before .before .before .before .before .before .before .args .row)
-  ends-after = omega (arith, c .before .before .if2 .left, size-is (c .before .before .before), c .before .before .before .before .before .before .before .before .function-offset .ensures, c .before .before .before .before .before .before .before .before .before .relocation-offset .ensures)
+offset-is : (n : tie.After-function-slots) → n .before .before .relocation-offset .result .0 ≡ offset n
+offset-is n = n .before .before .relocation-offset .ensures
 
-off-grid : (c : tie.Then3) → (relocationOffset (c .before .before .before .before .before .before .before .before .before .before .before .before .before .before .before .before .before .args .relocations .now) (c .before .before .before .before .before .before .before .before .before .before .before .before .before .before .before .before .before .args .k) - functionOffset (c .before .before .before .before .before .before .before .before .before .before .before .before .before .before .before .before .before .args .functions .now) (c .before .before .before .before .before .before .before .before .before .before .before .before .before .before .before .before .before .args .row)) % 8 ≡ 0 → ⊥
-off-grid c e = c .if3 .taken (omega (arith, e, c .before .before .before .before .before .before .before .before .before .function-offset .ensures, c .before .before .before .before .before .before .before .before .before .before .relocation-offset .ensures))
+base-is : (n : tie.After-function-slots) → n .before .function-offset .result .0 ≡ base n
+base-is n = n .before .function-offset .ensures
 
-on-grid : (c : tie.Else3) → (relocationOffset (c .before .before .before .before .before .before .before .before .before .before .before .before .before .before .before .before .before .args .relocations .now) (c .before .before .before .before .before .before .before .before .before .before .before .before .before .before .before .before .before .args .k) - functionOffset (c .before .before .before .before .before .before .before .before .before .before .before .before .before .before .before .before .before .args .functions .now) (c .before .before .before .before .before .before .before .before .before .before .before .before .before .before .before .before .before .args .row)) % 8 ≡ 0
-on-grid c = omega (arith, c .if3 .left, c .before .before .before .before .before .before .before .before .before .function-offset .ensures, c .before .before .before .before .before .before .before .before .before .before .relocation-offset .ensures)
+-- ---- past the test of the start: how far on, and the function's bytes
+abbrev reads : tie.After-struct-known2 → tie.After-function-slots
+reads t = t .before .before
 
-site-is : (c : tie.After-read-site) → SiteAt (c .before .before .before .before .before .before .before .before .before .before .before .before .before .before .before .before .before .before .args .instructions .now) (c .before .before .before .before .before .before .before .before .before .before .before .before .before .before .before .before .before .before .args .row) (slotOf (lend (c .before .before .before .before .before .before .before .before .before .before .before .before .before .before .before .before .before .before)) (c .before .before .before .before .before .before .before .before .before .before .before .before .before .before .before .before .before .before .args .row) (c .before .before .before .before .before .before .before .before .before .before .before .before .before .before .before .before .before .before .args .k)) (c .before .before .before .before .before .before .before .before .before .before .before .before .before .before .before .before .before .before .args .first)
-    (functionSlots (c .before .before .before .before .before .before .before .before .before .before .before .before .before .before .before .before .before .before .args .functions .now) (c .before .before .before .before .before .before .before .before .before .before .before .before .before .before .before .before .before .before .args .row)) (c .read-site .result)
-site-is c = rw (slot-is (c .before .before), c .before .before .before .before .before .before .before .before .before .function-slots .ensures) at (c .read-site .ensures)
+abbrev from : tie.After-to-offset → tie.Else1
+from n = n .before .before .before .before
 
-by-symbol-says : (c : tie.After-by-symbol) → Says (c .before .before .read-site .result)
-    (symbolVerdict (c .before .before .before .before .before .before .before .before .before .before .before .before .before .before .before .before .before .before .before .before .args .code .now) (c .before .before .before .before .before .before .before .before .before .before .before .before .before .before .before .before .before .before .before .before .args .symbols .now) (c .before .before .before .before .before .before .before .before .before .before .before .before .before .before .before .before .before .before .before .before .args .maps .now) (relocationSymbol (c .before .before .before .before .before .before .before .before .before .before .before .before .before .before .before .before .before .before .before .before .args .relocations .now) (c .before .before .before .before .before .before .before .before .before .before .before .before .before .before .before .before .before .before .before .before .args .k)) (c .before .before .read-site .result))
-    (c .by-symbol .result)
-by-symbol-says c = rw (c .before .relocation-symbol .ensures) at (c .by-symbol .ensures)
+starts : (n : tie.After-to-offset) → base (reads (from n .before)) ≤ offset (reads (from n .before))
+starts n = omega (arith, from n .if1 .left, offset-is (reads (from n .before)), base-is (reads (from n .before)))
+
+far : (n : tie.After-to-offset) → n .before .offset-at .result .0 ≡ offset (reads (from n .before)) - base (reads (from n .before))
+far n = omega (arith, n .before .offset-at .ensures, offset-is (reads (from n .before)), base-is (reads (from n .before)))
+
+size : (n : tie.After-to-offset) → n .to-offset .result .0 ≡ 8 * slots (reads (from n .before))
+size n = omega (arith, n .to-offset .ensures .0, reads (from n .before) .function-slots .ensures)
+
+-- ---- past the test of the end
+abbrev sized : tie.After-to-slot → tie.After-to-offset
+sized t = t .before .before .before .before
+
+abbrev read : tie.After-to-slot → tie.After-function-slots
+read t = reads (from (sized t) .before)
+
+ends : (t : tie.After-to-slot) → offset (read t) < base (read t) + 8 * slots (read t)
+ends t = omega (arith, t .before .if2 .left, far (sized t), size (sized t))
+
+slot-is : (t : tie.After-to-slot) → t .to-slot .result .0 ≡ slotOf (offered (start (read t))) (start (read t) .args .row) (start (read t) .args .k)
+slot-is t = omega (arith, t .to-slot .ensures, far (sized t))
 
 relocation-offset-requires : tie.Need-relocation-offset-requires
 relocation-offset-requires c κs = search needs
@@ -59,58 +76,66 @@ function-slots-requires c κs = search needs
 
 returns : tie.Need-returns
 returns c =
-    let s = c .before .before .before .before .before .before .before .before .before .before in
-    before-judges (lend s) (s .args .instructions .now) (s .args .row) (s .args .first) (s .args .k) (s .pre) (omega (arith, c .if1 .taken, c .before .before .function-offset .ensures, c .before .before .before .relocation-offset .ensures))
+    let n = reads (c .before) in
+    before-judges (start n .pre) (omega (arith, c .if1 .taken, offset-is n, base-is n))
 
-slot-at-requires : tie.Need-slot-at-requires
-slot-at-requires c κs = search needs
+offset-at-requires : tie.Need-offset-at-requires
+offset-at-requires c κs = search needs
 
 to-offset-requires : tie.Need-to-offset-requires
 to-offset-requires c κs = search needs
 
 returns-2 : tie.Need-returns-2
 returns-2 c =
-    let s = c .before .before .before .before .before .before .before .before .before .before .before .before .before .before in
-    past-judges (lend s) (s .args .instructions .now) (s .args .row) (s .args .first) (s .args .k) (s .pre) (starts-before (c .before .before .before .before)) (past c)
-
-offset-at-requires : tie.Need-offset-at-requires
-offset-at-requires c κs = search needs
+    let n = c .before .before .before in
+    past-judges (start (reads (from n .before)) .pre) (starts n) (omega (arith, c .if2 .taken, far n, size n, starts n))
 
 to-slot-requires : tie.Need-to-slot-requires
 to-slot-requires c κs = search needs
 
 cast-function : tie.Need-cast-function
 cast-function c =
-    let s = c .before .before .before .before .before .before .before .before .before .before .before .before .before .before .before .before in
-    record { fits = omega (arith, row-low (lend s) (s .args .instructions .now) (s .args .row) (s .args .first) (s .args .k) (s .pre)) }
+    record { fits = omega (arith, row-low (start (read c) .pre)) }
+
+refusal-requires : tie.Need-refusal-requires
+refusal-requires c κs = search needs
 
 returns-3 : tie.Need-returns-3
 returns-3 c =
-    let s = c .before .before .before .before .before .before .before .before .before .before .before .before .before .before .before .before .before in
-    off-judges (lend s) (s .args .instructions .now) (s .args .row) (s .args .first) (s .args .k) (s .pre) (starts-before (c .before .before .before .before .before .before .before)) (ends-after (c .before)) (off-grid c) _ (slot-is (c .before))
+    let t = c .before .before .before in
+    let a = start (read t) .args in
+    off-judges (start (read t) .pre) (starts (sized t)) (ends t) (λ e. c .before .if3 .taken (omega (arith, e, far (sized t)))) _
+    (c .refusal .ensures ∙ ap (λ (n : ℕ). reply (numberOf InvalidRelocationOffset) (a .row) n 0) (slot-is t))
 
 read-site-requires : tie.Need-read-site-requires
 read-site-requires c κs =
-    let s = c .before .before .before .before .before .before .before .before .before .before .before .before .before .before .before .before .before in
+    let t = c .before .before in
+    let asked = start (read t) .pre in
+    let slots-are = read t .function-slots .ensures in
     record {
-      in-function = omega (arith, slot-is (c .before), starts-before (c .before .before .before .before .before .before .before), ends-after (c .before), c .before .before .before .before .before .before .before .before .function-slots .ensures);
-      in-table = omega (arith, in-table (lend s) (s .args .instructions .now) (s .args .row) (s .args .first) (s .args .k) (s .pre), c .before .before .before .before .before .before .before .before .function-slots .ensures);
-      low = omega (arith, first-low (lend s) (s .args .instructions .now) (s .args .row) (s .args .first) (s .args .k) (s .pre), row-low (lend s) (s .args .instructions .now) (s .args .row) (s .args .first) (s .args .k) (s .pre), slots-high (lend s) (s .args .instructions .now) (s .args .row) (s .args .first) (s .args .k) (s .pre), c .before .before .before .before .before .before .before .before .function-slots .ensures);
+      in-function = omega (arith, slot-is t, starts (sized t), ends t, slots-are);
+      in-table = omega (arith, in-table asked, slots-are);
+      low = omega (arith, first-low asked, row-low asked, slots-high asked, slots-are);
     }
 
 relocation-symbol-requires : tie.Need-relocation-symbol-requires
-relocation-symbol-requires c κs = omega (arith, c .before .before .before .before .before .before .before .before .before .before .before .before .before .before .before .before .before .before .pre .k-inside)
+relocation-symbol-requires c κs = omega (arith, start (read (c .before .before .before)) .pre .k-inside)
 
 by-symbol-requires : tie.Need-by-symbol-requires
 by-symbol-requires c κs =
-    let s = c .before .before .before .before .before .before .before .before .before .before .before .before .before .before .before .before .before .before .before in
-    record { code-sound = s .pre .checked .tables .code; symbols-sound = s .pre .checked .tables .symbols; maps-sound = s .pre .checked .maps }
+    let checked = start (read (c .before .before .before .before)) .pre .of-row .checked in
+    record { code-sound = checked .tables .code; symbols-sound = checked .tables .symbols; maps-sound = checked .maps }
 
 returns-4 : tie.Need-returns-4
 returns-4 c =
-    let s = c .before .before .before .before .before .before .before .before .before .before .before .before .before .before .before .before .before .before .before .before in
-    let to = c .before .before .before .before in
-    site-judges (lend s) (s .args .instructions .now) (s .args .row) (s .args .first) (s .args .k) (s .pre) (starts-before (c .before .before .before .before .before .before .before .before .before .before)) (ends-after to) (on-grid (c .before .before .before)) (c .before .before .read-site .result) (site-is (c .before .before)) _ (by-symbol-says c)
+    let site = c .before .before in
+    let on = site .before in
+    let t = on .before .before in
+    let s = start (read t) in
+    let says : Says (site .read-site .result)
+    (symbolVerdict (s .args .code .now) (s .args .symbols .now) (s .args .maps .now) (relocationSymbol (s .args .relocations .now) (s .args .k)) (site .read-site .result)) (c .by-symbol .result) =
+    rw (c .before .relocation-symbol .ensures) at (c .by-symbol .ensures) in
+    site-judges (s .pre) (starts (sized t)) (ends t) (omega (arith, on .if3 .left, far (sized t))) _ _ _ (slot-is t) (read t .function-slots .ensures) (site .read-site .ensures) _ says
 
 pub judge-spec : {M : Type 1} → statement M
 judge-spec =
@@ -120,12 +145,12 @@ judge-spec =
     function-offset-requires
     function-slots-requires
     returns
-    slot-at-requires
+    offset-at-requires
     to-offset-requires
     returns-2
-    offset-at-requires
     to-slot-requires
     cast-function
+    refusal-requires
     returns-3
     read-site-requires
     relocation-symbol-requires

@@ -1,6 +1,6 @@
 -- Each field is read from the slot that the function's first slot and the slot number add up to.
 -- Assumes nothing.
-use mathlib.Core.Path.{refl, ap, _∙_}
+use mathlib.Core.Path.{_≡_, refl, ap, _∙_}
 use Prim.Native.Nat.{ℕ, _+_}
 use borrow.Author.Needs.{needs}
 use mir.Syntax.{w32}
@@ -10,6 +10,10 @@ use Rattle.rules.specs.Object.{isCall}
 use Rattle.insn.specs.Wide.{wideLoadIn}
 use Rattle.judge.proofs.read_site.Statement.{statement}
 use Rattle.judge.proofs.read_site.Tie as tie
+
+-- both places are known
+abbrev start : tie.After-slot-at2 → tie.Start
+start n = n .before .before .before .before .before
 
 add-slot-at : tie.Need-add-slot-at
 add-slot-at c = search needs
@@ -34,15 +38,18 @@ is-wide-load-requires c κs = search needs
 
 returns : tie.Need-returns
 returns c =
-    let a = c .before .before .before .before .before .before .before .args in
-    let at = c .before .before .before .before .slot-at .ensures in
+    let n = c .before .before .before in
+    let a = start n .args in
+    let at = n .before .before .slot-at .ensures in
     record {
       row-is = refl;
       slot-is = refl;
       here-is = at;
-      imm-is = toZ-ofZ w32 _ (record { sfits = c .before .before .immediate .ok }) ∙ c .before .before .immediate .ensures ∙ ap (λ (n : ℕ). slotIn little (a .instructions .now) n .immediate) at;
-      call-is = c .before .insn-is-call .ensures ∙ ap (λ (n : ℕ). isCall (slotIn little (a .instructions .now) n)) at;
-      wide-is = c .is-wide-load .ensures ∙ ap (λ (n : ℕ). wideLoadIn (a .instructions .now) n (c .before .before .before .slot-at2 .result .0)) at ∙ ap (λ (n : ℕ). wideLoadIn (a .instructions .now) (a .first + a .slot .0) n) (c .before .before .before .slot-at2 .ensures);
+      imm-is = toZ-ofZ w32 _ (record { sfits = c .before .before .immediate .ok }) ∙ c .before .before .immediate .ensures
+          ∙ ap (λ (m : ℕ). slotIn little (a .instructions .now) m .immediate) at;
+      call-is = c .before .insn-is-call .ensures ∙ ap (λ (m : ℕ). isCall (slotIn little (a .instructions .now) m)) at;
+      wide-is = c .is-wide-load .ensures ∙ ap (λ (m : ℕ). wideLoadIn (a .instructions .now) m (n .slot-at2 .result .0)) at
+          ∙ ap (λ (m : ℕ). wideLoadIn (a .instructions .now) (a .first + a .slot .0) m) (n .slot-at2 .ensures);
     }
 
 pub read-site-spec : {M : Type 1} → statement M

@@ -14,8 +14,7 @@ relocations-before-requires : tie.Need-relocations-before-requires
 relocations-before-requires c κs = search needs
 
 returns : tie.Need-returns
-returns c =
-    rw (← (c .before .before .function-section .ensures), ← (c .before .function-offset .ensures)) (c .relocations-before .ensures)
+returns c = rw (← (c .before .before .function-section .ensures), ← (c .before .function-offset .ensures)) (c .relocations-before .ensures)
 
 pub first-of-spec : {M : Type 1} → statement M
 first-of-spec =

@@ -11,8 +11,12 @@ relocation-offset-requires : tie.Need-relocation-offset-requires
 relocation-offset-requires c κs = search needs
 
 returns : tie.Need-returns
-returns c = rw (← (c .before .relocation-section .ensures), ← (c .relocation-offset .ensures)) (search needs)
+returns c = rw (← (c .before .before .before .relocation-section .ensures), ← (c .before .before .relocation-offset .ensures)) (search needs)
 
 pub is-within-spec : {M : Type 1} → statement M
 is-within-spec =
-    tie.close (tie.spec relocation-section-requires relocation-offset-requires returns)
+    tie.close
+    (tie.spec
+    relocation-section-requires
+    relocation-offset-requires
+    returns)

@@ -1,52 +1,73 @@
 -- The invariant: the relocations that are left give the function's first refusal.
 -- Assumes nothing.
-use mathlib.Core.Path.{sym, ap, _∙_}
+use mathlib.Core.Path.{_≡_, sym, ap, _∙_}
+use mathlib.Core.Bool.{Bool, true, false}
 use Prim.Native.Nat.{_-_}
 use native.Mathlib.Omega.{arith}
 use borrow.Author.Needs.{needs}
 use borrow.Author.Tests.{not-true, not-false}
-use Rattle.judge.specs.Judged.{lent}
 use Rattle.rules.specs.declared.Table.the-variants.{Relocations}
+use Rattle.rules.specs.Answers.{refusalIn}
+use Rattle.rules.specs.Rows.{mapStepOffer, functionSection}
 use Rattle.rules.proofs.Passed.{few-rows}
-use Rattle.maps.specs.Passes.{refusalOf}
-use Rattle.maps.proofs.Passes.{JudgeScan, asked-at, judge-start, judge-past, judge-end, judge-refused, judge-next}
+use Rattle.maps.specs.Passes.{isWithin, endOf}
+use Rattle.maps.proofs.Passes.{test-is, JudgeScan, asked-at, judge-start, judge-past, judge-end, judge-refused, judge-next}
 use Rattle.maps.proofs.judge_function.Statement.{statement}
 use Rattle.maps.proofs.judge_function.Tie as tie
 
 abbrev Inv-loop : tie.InvT-loop
-Inv-loop code symbols functions relocations maps instructions row first home end n k₀ k =
-    JudgeScan (lent code symbols functions relocations maps) instructions row k
+Inv-loop code symbols functions relocations maps instructions row first home end n k₀ k = JudgeScan (mapStepOffer code symbols functions relocations maps instructions) row k
 
 abbrev μ-loop : tie.MeasureT-loop
 μ-loop code symbols functions relocations maps instructions row first home end n k₀ k = n - k
 
+abbrev entry : tie.After-shared-slice-known6 Inv-loop μ-loop → tie.Start Inv-loop μ-loop
+entry n = n .before .before .before .before .before .before
+
+abbrev start : tie.At-loop Inv-loop μ-loop → tie.Start Inv-loop μ-loop
+start l = entry (l .before .before .before .before)
+
+-- a row is tested
+abbrev loops : tie.After-is-within Inv-loop μ-loop → tie.At-loop Inv-loop μ-loop
+loops t = t .before .before
+
+tested : (t : tie.After-is-within Inv-loop μ-loop) (b : Bool) → t .is-within .result ≡ b
+    → isWithin (start (loops t) .args .relocations .now) (functionSection (start (loops t) .args .functions .now) (start (loops t) .args .row))
+    (endOf (start (loops t) .args .functions .now) (start (loops t) .args .row)) (loops t .loop .k) ≡ b
+tested t b e = test-is (start (loops t) .args .relocations .now) (loops t .loop .k) (loops t .before .before .before .function-section .ensures) (loops t .before .before .end-of .ensures) (t .is-within .ensures) e
+
+-- it is of the function, and is judged
+abbrev of-it : tie.After-refusal-of Inv-loop μ-loop → tie.Else1 Inv-loop μ-loop
+of-it n = n .before .before
+
 function-section-requires : tie.Need-function-section-requires Inv-loop μ-loop
-function-section-requires c κs = omega (arith, c .before .before .before .before .before .before .pre .row-inside)
+function-section-requires c κs = omega (arith, entry c .pre .row-inside)
 
 end-of-requires : tie.Need-end-of-requires Inv-loop μ-loop
-end-of-requires c κs = (c .before .before .before .before .before .before .before .pre .checked .tables .functions, c .before .before .before .before .before .before .before .pre .row-inside)
+end-of-requires c κs =
+    let asked = entry (c .before) .pre in
+    (asked .checked .tables .functions, asked .row-inside)
 
 first-of-requires : tie.Need-first-of-requires Inv-loop μ-loop
-first-of-requires c κs = (c .before .before .before .before .before .before .before .before .pre .checked .tables .relocations, c .before .before .before .before .before .before .before .before .pre .row-inside)
+first-of-requires c κs =
+    let asked = entry (c .before .before) .pre in
+    (asked .checked .tables .relocations, asked .row-inside)
 
 loop-holds : tie.Need-loop-holds Inv-loop μ-loop
-loop-holds c =
-    let s = c .before .before .before .before .before .before .before .before .before in
-    judge-start (lent (s .args .code .now) (s .args .symbols .now) (s .args .functions .now) (s .args .relocations .now) (s .args .maps .now)) (s .args .instructions .now) (s .args .row) (s .args .first) (s .pre) _ (c .first-of .ensures .0) (c .first-of .ensures .1)
+loop-holds c = judge-start (entry (c .before .before .before) .pre) _ (c .first-of .ensures .0) (c .first-of .ensures .1)
 
 is-within-requires : tie.Need-is-within-requires Inv-loop μ-loop
 is-within-requires c κs = omega arith
 
 returns : tie.Need-returns Inv-loop μ-loop
 returns c =
-    let s = c .before .before .before .before .before .before .before .before .before .before .before .before .before in
-    let l = c .before .before .before .loop in
-    judge-past (lent (s .args .code .now) (s .args .symbols .now) (s .args .functions .now) (s .args .relocations .now) (s .args .maps .now)) (s .args .instructions .now) (s .args .row) (s .args .first) (s .pre) (l .k) (l .inv) (omega arith) (rw (c .before .before .before .before .before .before .function-section .ensures, c .before .before .before .before .before .end-of .ensures) at (sym (c .before .is-within .ensures) ∙ not-true _ (c .if1 .taken)))
+    let l = loops (c .before) in
+    judge-past (start l .pre) (l .loop .inv) (omega (arith, c .before .before .loop-test .taken)) (tested (c .before) false (not-true _ (c .if1 .taken)))
 
 judge-requires : tie.Need-judge-requires Inv-loop μ-loop
 judge-requires c κs =
-    let s = c .before .before .before .before .before .before .before .before .before .before .before .before .before in
-    asked-at (lent (s .args .code .now) (s .args .symbols .now) (s .args .functions .now) (s .args .relocations .now) (s .args .maps .now)) (s .args .instructions .now) (s .args .row) (s .args .first) (s .pre) (c .before .before .before .loop .k) (omega arith)
+    let l = loops (c .before) in
+    asked-at (start l .pre) (l .loop .k) (omega (arith, c .before .before .loop-test .taken))
 
 refusal-of-requires : tie.Need-refusal-of-requires Inv-loop μ-loop
 refusal-of-requires c κs = search needs
@@ -56,33 +77,34 @@ enum-known-j c = search needs
 
 returns-2 : tie.Need-returns-2 Inv-loop μ-loop
 returns-2 c =
-    let s = c .before .before .before .before .before .before .before .before .before .before .before .before .before .before .before .before .before .before in
-    let l = c .before .before .before .before .before .before .before .before .loop in
-    judge-refused (lent (s .args .code .now) (s .args .symbols .now) (s .args .functions .now) (s .args .relocations .now) (s .args .maps .now)) (s .args .instructions .now) (s .args .row) (s .args .first) (s .pre) (l .k) (l .inv) (omega (arith, c .before .before .before .before .before .before .before .loop-test .taken)) (rw (c .before .before .before .before .before .before .before .before .before .before .before .function-section .ensures, c .before .before .before .before .before .before .before .before .before .before .end-of .ensures) at (sym (c .before .before .before .before .before .before .is-within .ensures) ∙ not-false _ (c .before .before .before .before .before .if1 .left))) _ (c .before .before .before .before .judge .ensures) _
-    (sym (ap refusalOf (c .before .j .given .1)) ∙ c .before .before .before .refusal-of .ensures)
+    let n = c .before .before .before in
+    let t = of-it n .before in
+    let l = loops t in
+    judge-refused (start l .pre) (l .loop .inv) (omega (arith, t .before .loop-test .taken)) (tested t true (not-false _ (of-it n .if1 .left))) (n .before .judge .ensures) (c .before .j .given .0 .0)
+    (sym (ap refusalIn (c .before .j .given .1)) ∙ n .refusal-of .ensures)
 
 enum-told : tie.Need-enum-told Inv-loop μ-loop
 enum-told c = search needs
 
 add-k : tie.Need-add-k Inv-loop μ-loop
 add-k c =
-    let s = c .before .before .before .before .before .before .before .before .before .before .before .before .before .before .before .before .before in
-    record { fits = omega (arith, c .before .before .before .before .before .before .loop-test .taken, few-rows Relocations (s .args .relocations .now) (s .pre .checked .tables .relocations)) }
+    let t = of-it (c .before .before) .before in
+    let l = loops t in
+    record { fits = omega (arith, t .before .loop-test .taken, few-rows Relocations (start l .args .relocations .now) (start l .pre .checked .tables .relocations)) }
 
 loop-less : tie.Need-loop-less Inv-loop μ-loop
-loop-less c = omega (arith, c .before .before .before .before .before .before .loop-test .taken)
+loop-less c = omega (arith, of-it (c .before .before) .before .before .loop-test .taken)
 
 loop-again : tie.Need-loop-again Inv-loop μ-loop
 loop-again c =
-    let s = c .before .before .before .before .before .before .before .before .before .before .before .before .before .before .before .before .before in
-    let l = c .before .before .before .before .before .before .before .loop in
-    judge-next (lent (s .args .code .now) (s .args .symbols .now) (s .args .functions .now) (s .args .relocations .now) (s .args .maps .now)) (s .args .instructions .now) (s .args .row) (s .args .first) (s .pre) (l .k) (l .inv) (omega (arith, c .before .before .before .before .before .before .loop-test .taken)) (rw (c .before .before .before .before .before .before .before .before .before .before .function-section .ensures, c .before .before .before .before .before .before .before .before .before .end-of .ensures) at (sym (c .before .before .before .before .before .is-within .ensures) ∙ not-false _ (c .before .before .before .before .if1 .left))) _ (c .before .before .before .judge .ensures)
-    (sym (ap refusalOf (c .enum-told .given .1)) ∙ c .before .before .refusal-of .ensures)
+    let n = c .before .before in
+    let t = of-it n .before in
+    let l = loops t in
+    judge-next (start l .pre) (l .loop .inv) (omega (arith, t .before .loop-test .taken)) (tested t true (not-false _ (of-it n .if1 .left))) (n .before .judge .ensures)
+    (sym (ap refusalIn (c .enum-told .given .1)) ∙ n .refusal-of .ensures)
 
 returns-3 : tie.Need-returns-3 Inv-loop μ-loop
-returns-3 c =
-    let s = c .before .before .before .before .before .before .before .before .before .before .before in
-    judge-end (lent (s .args .code .now) (s .args .symbols .now) (s .args .functions .now) (s .args .relocations .now) (s .args .maps .now)) (s .args .instructions .now) (s .args .row) (s .args .first) (s .pre) (c .before .loop .k) (c .before .loop .inv) (omega arith)
+returns-3 c = judge-end (start (c .before) .pre) (c .before .loop .inv) (omega (arith, c .loop-test .left))
 
 pub judge-function-spec : {M : Type 1} → statement M
 judge-function-spec =

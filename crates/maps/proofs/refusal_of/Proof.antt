@@ -33,4 +33,12 @@ returns-4 c = search needs
 pub refusal-of-spec : {M : Type 1} → statement M
 refusal-of-spec =
     tie.close
-    (tie.spec enum-told enum-known-v enum-told-2 enum-told-3 returns returns-2 returns-3 returns-4)
+    (tie.spec
+    enum-told
+    enum-known-v
+    enum-told-2
+    enum-told-3
+    returns
+    returns-2
+    returns-3
+    returns-4)

@@ -3,8 +3,8 @@
 use Prim.Native.Nat.{_-_}
 use native.Mathlib.Omega.{arith}
 use Rattle.rules.specs.declared.Table.the-variants.{Functions, Relocations}
+use Rattle.rules.specs.Rows.{mapStepOffer}
 use Rattle.rules.proofs.Passed.{few-rows}
-use Rattle.judge.specs.Judged.{lent}
 use Rattle.maps.proofs.Passes.{slots-low}
 use Rattle.maps.proofs.Rewriting.{RewriteRows, rewrite-rows-start, rewrite-rows-end, rewrite-rows-asked, rewrite-rows-next}
 use Rattle.maps.proofs.rewrite_all.Statement.{statement}
@@ -12,59 +12,61 @@ use Rattle.maps.proofs.rewrite_all.Tie as tie
 
 abbrev Inv-loop : tie.InvT-loop
 Inv-loop code symbols functions relocations maps instructions₀ rows row₀ first₀ count₀ instructions row first count =
-    RewriteRows (lent code symbols functions relocations maps) instructions₀ instructions row first count
+    RewriteRows (mapStepOffer code symbols functions relocations maps instructions₀) instructions row first count
 
 abbrev μ-loop : tie.MeasureT-loop
-μ-loop code symbols functions relocations maps instructions₀ rows row₀ first₀ count₀ instructions row first count =
-    rows - row
+μ-loop code symbols functions relocations maps instructions₀ rows row₀ first₀ count₀ instructions row first count = rows - row
+
+abbrev start : tie.At-loop Inv-loop μ-loop → tie.Start Inv-loop μ-loop
+start l = l .before .before .before .before .before .before .before
+
+-- a function is rewritten
+abbrev inside : tie.After-rewrite-function Inv-loop μ-loop → tie.In-loop Inv-loop μ-loop
+inside n = n .before .before
 
 loop-holds : tie.Need-loop-holds Inv-loop μ-loop
-loop-holds c =
-    let s = c .before .before .before .before .before .before in
-    rewrite-rows-start (lent (s .args .code .now) (s .args .symbols .now) (s .args .functions .now) (s .args .relocations .now) (s .args .maps .now)) (s .args .instructions .now) (s .pre)
+loop-holds c = rewrite-rows-start _
 
 rewrite-function-requires : tie.Need-rewrite-function-requires Inv-loop μ-loop
 rewrite-function-requires c κs =
-    let s = c .before .before .before .before .before .before .before .before .before in
-    let l = c .before .before .loop in
-    rewrite-rows-asked (lent (s .args .code .now) (s .args .symbols .now) (s .args .functions .now) (s .args .relocations .now) (s .args .maps .now)) (s .args .instructions .now) (s .pre) _ (l .row) (l .first) (l .count) (l .inv) (omega (arith, c .before .loop-test .taken))
+    let l = c .before .before in
+    rewrite-rows-asked (start l .pre) (l .loop .inv) (omega (arith, c .before .loop-test .taken))
 
 add-count : tie.Need-add-count Inv-loop μ-loop
 add-count c =
-    let s = c .before .before .before .before .before .before .before .before .before .before .before .before in
-    record { fits = omega (arith, c .before .before .before .before .before .loop .inv .few, c .before .before .before .before .loop-test .taken, c .before .before .rewrite-function .ensures .low, few-rows Functions (s .args .functions .now) (s .pre .tables .functions), few-rows Relocations (s .args .relocations .now) (s .pre .tables .relocations)) }
+    let n = c .before .before in
+    let l = inside n .before in
+    record { fits = omega (arith, l .loop .inv .few, inside n .loop-test .taken, n .rewrite-function .ensures .low, few-rows Functions (start l .args .functions .now) (start l .pre .tables .functions), few-rows Relocations (start l .args .relocations .now) (start l .pre .tables .relocations)) }
 
 function-slots-requires : tie.Need-function-slots-requires Inv-loop μ-loop
-function-slots-requires c κs = omega (arith, c .before .before .before .before .loop-test .taken)
+function-slots-requires c κs = omega (arith, inside (c .before .before) .loop-test .taken)
 
 add-first : tie.Need-add-first Inv-loop μ-loop
 add-first c =
-    let s = c .before .before .before .before .before .before .before .before .before .before .before .before .before in
-    let l = c .before .before .before .before .before .before .loop in
-    record { fits = omega (arith, l .inv .first-is, c .function-slots .ensures, slots-low (lent (s .args .code .now) (s .args .symbols .now) (s .args .functions .now) (s .args .relocations .now) (s .args .maps .now)) (s .args .instructions .now) (s .pre) (l .row) (omega (arith, c .before .before .before .before .before .loop-test .taken))) }
+    let t = inside (c .before .before .before .before) in
+    let l = t .before in
+    record { fits = omega (arith, l .loop .inv .first-is, c .before .function-slots .ensures, slots-low (start l .pre) (l .loop .row) (omega (arith, t .loop-test .taken))) }
 
 add-row : tie.Need-add-row Inv-loop μ-loop
 add-row c =
-    let s = c .before .before .before .before .before .before .before .before .before .before .before .before .before in
-    record { fits = omega (arith, c .before .before .before .before .before .loop-test .taken, few-rows Functions (s .args .functions .now) (s .pre .tables .functions)) }
+    let t = inside (c .before .before .before .before) in
+    let l = t .before in
+    record { fits = omega (arith, t .loop-test .taken, few-rows Functions (start l .args .functions .now) (start l .pre .tables .functions)) }
 
 loop-less : tie.Need-loop-less Inv-loop μ-loop
-loop-less c = omega (arith, c .before .before .before .before .before .loop-test .taken)
+loop-less c = omega (arith, inside (c .before .before .before .before) .loop-test .taken)
 
 loop-again : tie.Need-loop-again Inv-loop μ-loop
 loop-again c =
-    let s = c .before .before .before .before .before .before .before .before .before .before .before .before .before in
-    let l = c .before .before .before .before .before .before .loop in
-    rewrite-rows-next (lent (s .args .code .now) (s .args .symbols .now) (s .args .functions .now) (s .args .relocations .now) (s .args .maps .now)) (s .args .instructions .now) (s .pre) _ (l .row) (l .first) (l .count) (l .inv) (omega (arith, c .before .before .before .before .before .loop-test .taken)) _ _ (c .before .before .before .rewrite-function .ensures) _ (c .function-slots .ensures)
+    let n = c .before .before .before .before in
+    let l = inside n .before in
+    rewrite-rows-next (start l .pre) (l .loop .inv) (omega (arith, inside n .loop-test .taken)) (n .rewrite-function .ensures) _ (c .before .function-slots .ensures)
 
 same-length : tie.Need-same-length Inv-loop μ-loop
 same-length c = c .before .loop .inv .kept
 
 returns : tie.Need-returns Inv-loop μ-loop
-returns c =
-    let s = c .before .before .before .before .before .before .before .before in
-    let l = c .before .loop in
-    rewrite-rows-end (lent (s .args .code .now) (s .args .symbols .now) (s .args .functions .now) (s .args .relocations .now) (s .args .maps .now)) (s .args .instructions .now) (s .pre) _ (l .row) (l .first) (l .count) (l .inv) (omega arith)
+returns c = rewrite-rows-end (start (c .before) .pre) (c .before .loop .inv) (omega (arith, c .loop-test .left))
 
 pub rewrite-all-spec : {M : Type 1} → statement M
 rewrite-all-spec =

@@ -4,30 +4,28 @@ use mathlib.Core.Path.{ap, _∙_}
 use native.Mathlib.Omega.{arith}
 use borrow.Author.Needs.{needs}
 use Rattle.rules.specs.Bytes.{splice}
+use Rattle.rules.specs.Rows.{Offered}
+use Rattle.rules.specs.Lent.{Buffers, buffers, partsOffer}
 use Rattle.merge.specs.Merge.{unused}
-use Rattle.merge.proofs.Rooms.{sums, Places, places}
+use Rattle.merge.proofs.Rooms.{Places, places}
 use Rattle.merge.proofs.Copied.{slots-copied, funcs-copied, lines-copied}
 use Rattle.merge.proofs.begin.Statement.{statement}
 use Rattle.merge.proofs.begin.Tie as tie
 
--- the function's entry, and the places to read and to write
+-- the function's entry, what was lent there, and the places to read and to write
 abbrev entry : tie.After-counts → tie.Start
-entry c = c .before .before .before .before .before .before .before .before .before
+entry c = c .before .before .before .before .before .before .before .before
 
-held : (c : tie.After-counts)
-    → Places (entry c .args .instructions .now) (entry c .args .func-info .now) (entry c .args .line-info .now)
-    (entry c .args .image .now) (entry c .args .image-func-info .now) (entry c .args .image-line-info .now) unused (c .before .part-of .result) (c .counts .result)
+abbrev tables : tie.Start → Offered
+tables s = partsOffer (s .args .functions .now) (s .args .instructions .now) (s .args .func-info .now) (s .args .line-info .now)
+
+abbrev outputs : tie.Start → Buffers
+outputs s = buffers (s .args .image .now) (s .args .image-func-info .now) (s .args .image-line-info .now)
+
+held : (c : tie.After-counts) → Places (tables (entry c)) (outputs (entry c)) unused (entry c .args .part) (c .counts .result)
 held c =
     let s = entry c in
-    let a = s .args in
-    places (a .functions .now) (a .instructions .now) (a .func-info .now) (a .line-info .now) (a .image .now) (a .image-func-info .now) (a .image-line-info .now)
-    unused (a .row) (c .before .part-of .result) (c .counts .result) (s .pre .parts) (s .pre .room) (c .before .part-of .ensures) (c .counts .ensures)
-
-part-of-requires : tie.Need-part-of-requires
-part-of-requires c κs =
-    let s = c .before .before .before .before .before .before .before in
-    let a = s .args in
-    sums (a .functions .now) (a .instructions .now) (a .func-info .now) (a .line-info .now) (a .row) (s .pre .parts)
+    places (tables s) (outputs s) unused (s .args .row) (s .args .part) (c .counts .result) (s .pre .parts) (s .pre .room) (s .pre .begins) (c .counts .ensures)
 
 counts-requires : tie.Need-counts-requires
 counts-requires c κs = search needs
@@ -57,19 +55,20 @@ returns c =
     let i = f .before .before .before .before in
     let d = i .before .before in
     let a = entry d .args in
-    let part = d .before .part-of in
+    let part = a .part in
+    let begins = entry d .pre .begins in
     let more = d .counts in record {
       image-is = i .copy-rows .ensures
           ∙ ap (splice (a .image .now) 0)
-          (slots-copied (a .functions .now) (a .row) (a .instructions .now) (part .result .slots) (more .result .slots) (part .ensures .slots-are) (more .ensures .slots-are));
+          (slots-copied (a .functions .now) (a .row) (a .instructions .now) (part .slots) (more .result .slots) (begins .slots-are) (more .ensures .slots-are));
       funcs-is = f .copy-rows2 .ensures
           ∙ ap (splice (a .image-func-info .now) 0)
-          (funcs-copied (a .functions .now) (a .row) (a .func-info .now) (part .result .funcs) (more .result .funcs)
-          (λ k. omega (arith, d .before .before .before .before .before .before .shared-slice-known3 .given k)) (part .ensures .funcs-are) (more .ensures .funcs-are) (held d .functionRecords .inside));
+          (funcs-copied (a .functions .now) (a .row) (a .func-info .now) (part .funcs) (more .result .funcs)
+          (λ k. omega (arith, d .before .before .before .before .before .shared-slice-known3 .given k)) (begins .funcs-are) (more .ensures .funcs-are) (held d .functionRecords .inside));
       lines-is = l .copy-rows3 .ensures
           ∙ ap (splice (a .image-line-info .now) 0)
-          (lines-copied (a .functions .now) (a .row) (a .line-info .now) (part .result .lines) (more .result .lines)
-          (λ k. omega (arith, d .before .before .before .before .before .shared-slice-known4 .given k)) (part .ensures .lines-are) (more .ensures .lines-are) (held d .lineRecords .inside));
+          (lines-copied (a .functions .now) (a .row) (a .line-info .now) (part .lines) (more .result .lines)
+          (λ k. omega (arith, d .before .before .before .before .shared-slice-known4 .given k)) (begins .lines-are) (more .ensures .lines-are) (held d .lineRecords .inside));
       counts = more .ensures;
     }
 
@@ -77,7 +76,6 @@ pub begin-spec : {M : Type 1} → statement M
 begin-spec =
     tie.close
     (tie.spec
-    part-of-requires
     counts-requires
     copy-rows-requires
     copy-rows-requires-2

@@ -5,30 +5,28 @@ use Prim.Native.Nat.{ℕ, _+_, _*_}
 use native.Mathlib.Omega.{arith}
 use borrow.Author.Needs.{needs}
 use Rattle.rules.specs.Bytes.{splice}
-use Rattle.merge.proofs.Rooms.{sums, Places, places}
+use Rattle.rules.specs.Rows.{Offered}
+use Rattle.rules.specs.Lent.{Buffers, buffers, partsOffer}
+use Rattle.merge.proofs.Rooms.{Places, places}
 use Rattle.merge.proofs.Strays.{near-in}
 use Rattle.merge.proofs.Copied.{slots-copied, funcs-moved, lines-moved}
 use Rattle.merge.proofs.extend.Statement.{statement}
 use Rattle.merge.proofs.extend.Tie as tie
 
--- the function's entry, and the places to read and to write
+-- the function's entry, what was lent there, and the places to read and to write
 abbrev entry : tie.After-counts → tie.Start
-entry c = c .before .before .before .before .before .before .before .before .before
+entry c = c .before .before .before .before .before .before .before .before
 
-held : (c : tie.After-counts)
-    → Places (entry c .args .instructions .now) (entry c .args .func-info .now) (entry c .args .line-info .now)
-    (entry c .args .image .now) (entry c .args .image-func-info .now) (entry c .args .image-line-info .now) (entry c .args .used) (c .before .part-of .result) (c .counts .result)
+abbrev tables : tie.Start → Offered
+tables s = partsOffer (s .args .functions .now) (s .args .instructions .now) (s .args .func-info .now) (s .args .line-info .now)
+
+abbrev outputs : tie.Start → Buffers
+outputs s = buffers (s .args .image .now) (s .args .image-func-info .now) (s .args .image-line-info .now)
+
+held : (c : tie.After-counts) → Places (tables (entry c)) (outputs (entry c)) (entry c .args .used) (entry c .args .part) (c .counts .result)
 held c =
     let s = entry c in
-    let a = s .args in
-    places (a .functions .now) (a .instructions .now) (a .func-info .now) (a .line-info .now) (a .image .now) (a .image-func-info .now) (a .image-line-info .now)
-    (a .used) (a .row) (c .before .part-of .result) (c .counts .result) (s .pre .parts) (s .pre .room) (c .before .part-of .ensures) (c .counts .ensures)
-
-part-of-requires : tie.Need-part-of-requires
-part-of-requires c κs =
-    let s = c .before .before .before .before .before .before .before in
-    let a = s .args in
-    sums (a .functions .now) (a .instructions .now) (a .func-info .now) (a .line-info .now) (a .row) (s .pre .parts)
+    places (tables s) (outputs s) (s .args .used) (s .args .row) (s .args .part) (c .counts .result) (s .pre .parts) (s .pre .room) (s .pre .begins) (c .counts .ensures)
 
 counts-requires : tie.Need-counts-requires
 counts-requires c κs = search needs
@@ -44,10 +42,11 @@ link-line-info-requires c κs =
     let d = c .before .before .before .before .before .before .before .before .before in
     let s = entry d in
     let a = s .args in
-    let part = d .before .part-of in
+    let part = a .part in
+    let begins = entry d .pre .begins in
     let more = d .counts in (
       held d .lineRecords,
-      near-in (a .functions .now) (a .line-info .now) (a .row) (part .result .lines) (more .result .lines) (a .used .slots) (part .ensures .lines-are) (more .ensures .lines-are)
+      near-in (a .functions .now) (a .line-info .now) (a .row) (part .lines) (more .result .lines) (a .used .slots) (begins .lines-are) (more .ensures .lines-are)
           (omega (arith, held d .most-slots, more .ensures .slots-are)) (s .pre .no-stray),
     )
 
@@ -79,17 +78,18 @@ returns c =
     let i = f .before .before .before .before in
     let d = counted l in
     let a = entry d .args in
-    let part = d .before .part-of in
+    let part = a .part in
+    let begins = entry d .pre .begins in
     let more = d .counts in record {
       image-is = i .copy-rows .ensures
           ∙ ap (splice (a .image .now) (8 * a .used .slots))
-          (slots-copied (a .functions .now) (a .row) (a .instructions .now) (part .result .slots) (more .result .slots) (part .ensures .slots-are) (more .ensures .slots-are));
+          (slots-copied (a .functions .now) (a .row) (a .instructions .now) (part .slots) (more .result .slots) (begins .slots-are) (more .ensures .slots-are));
       funcs-is = f .link-func-info .ensures
           ∙ ap (splice (a .image-func-info .now) (8 * a .used .funcs))
-          (funcs-moved (a .functions .now) (a .row) (a .func-info .now) (part .result .funcs) (more .result .funcs) (a .used .slots) (part .ensures .funcs-are) (more .ensures .funcs-are));
+          (funcs-moved (a .functions .now) (a .row) (a .func-info .now) (part .funcs) (more .result .funcs) (a .used .slots) (begins .funcs-are) (more .ensures .funcs-are));
       lines-is = l .link-line-info .ensures
           ∙ ap (splice (a .image-line-info .now) (16 * a .used .lines))
-          (lines-moved (a .functions .now) (a .row) (a .line-info .now) (part .result .lines) (more .result .lines) (a .used .slots) (part .ensures .lines-are) (more .ensures .lines-are));
+          (lines-moved (a .functions .now) (a .row) (a .line-info .now) (part .lines) (more .result .lines) (a .used .slots) (begins .lines-are) (more .ensures .lines-are));
       counts = record {
         slots-are = ap (λ (n : ℕ). a .used .slots + n) (more .ensures .slots-are);
         funcs-are = ap (λ (n : ℕ). a .used .funcs + n) (more .ensures .funcs-are);
@@ -101,7 +101,6 @@ pub extend-spec : {M : Type 1} → statement M
 extend-spec =
     tie.close
     (tie.spec
-    part-of-requires
     counts-requires
     copy-rows-requires
     link-func-info-requires

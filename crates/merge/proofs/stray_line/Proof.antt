@@ -24,7 +24,7 @@ abbrev μ-loop : tie.MeasureT-loop
 μ-loop functions line-info row first at count slots origin k₀ k = count - k
 
 abbrev slots-of : tie.At-loop Inv-loop μ-loop → ℕ
-slots-of c = c .before .before .function-slots .result
+slots-of c = c .before .before .function-slots .result .0
 
 abbrev origin-of : tie.At-loop Inv-loop μ-loop → ℕ
 origin-of c = c .before .line-info-slot .result
@@ -64,7 +64,7 @@ loop-holds c =
     let s = n .before .before .before in
     let a = s .args in record {
       most = omega arith;
-      same = stray-start (a .functions .now) (a .line-info .now) (a .row) (a .first) (n .function-line-info .result) (c .before .function-slots .result) (c .line-info-slot .result)
+      same = stray-start (a .functions .now) (a .line-info .now) (a .row) (a .first) (n .function-line-info .result) (c .before .function-slots .result .0) (c .line-info-slot .result)
           (c .before .function-slots .ensures) (s .pre .begins) (n .function-line-info .ensures) (c .line-info-slot .ensures) (omega (arith, c .before .before .if1 .left));
     }
 

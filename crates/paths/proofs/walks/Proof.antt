@@ -5,13 +5,10 @@ use Rattle.paths.proofs.walks.Statement.{statement}
 use Rattle.paths.proofs.walks.Tie as tie
 
 abbrev Inv-loop : tie.InvT-loop
-Inv-loop code symbols functions relocations instructions root image answers limit k₀ k = Unit {0}
+Inv-loop file instructions root image answers limit k₀ k = Unit {0}
 
 abbrev μ-loop : tie.MeasureT-loop
-μ-loop code symbols functions relocations instructions root image answers limit k₀ k = limit - k
-
-slice-aggregate-say : tie.Need-slice-aggregate-say Inv-loop μ-loop
-slice-aggregate-say c = search needs
+μ-loop file instructions root image answers limit k₀ k = limit - k
 
 say-requires : tie.Need-say-requires Inv-loop μ-loop
 say-requires c κs = search needs
@@ -43,7 +40,6 @@ walks-spec =
     (tie.spec
     Inv-loop
     μ-loop
-    slice-aggregate-say
     say-requires
     loop-holds
     both-requires

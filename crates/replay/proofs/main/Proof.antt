@@ -1,16 +1,14 @@
 -- `replay::main` is safe and ends. The measure is the number of cases that may still come. Assumes nothing.
-use borrow.Author.Needs.{needs}
 use Prim.Native.Nat.{_-_}
+use borrow.Author.Needs.{needs}
 use Rattle.replay.proofs.main.Statement.{statement}
 use Rattle.replay.proofs.main.Tie as tie
 
 abbrev Inv-loop : tie.InvT-loop
-Inv-loop code₀ symbols₀ functions₀ relocations₀ maps₀ instructions₀ func-info₀ line-info₀ data₀ image₀ image-func-info₀ image-line-info₀ index₀ code symbols functions relocations maps instructions func-info line-info «data» image image-func-info image-line-info index =
-    Unit {0}
+Inv-loop file₀ instructions₀ image₀ funcs₀ lines₀ index₀ file instructions image funcs lines index = Unit {0}
 
 abbrev μ-loop : tie.MeasureT-loop
-μ-loop code₀ symbols₀ functions₀ relocations₀ maps₀ instructions₀ func-info₀ line-info₀ data₀ image₀ image-func-info₀ image-line-info₀ index₀ code symbols functions relocations maps instructions func-info line-info «data» image image-func-info image-line-info index =
-    0xFFFF_FFFF_FFFF_FFFF - index
+μ-loop file₀ instructions₀ image₀ funcs₀ lines₀ index₀ file instructions image funcs lines index = 0xFFFF_FFFF_FFFF_FFFF - index
 
 loop-holds : tie.Need-loop-holds Inv-loop μ-loop
 loop-holds c = search needs

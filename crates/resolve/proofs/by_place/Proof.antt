@@ -14,24 +14,23 @@ use Rattle.resolve.proofs.Targets.{passed-on, slots-from}
 use Rattle.resolve.proofs.by_place.Statement.{statement}
 use Rattle.resolve.proofs.by_place.Tie as tie
 
-place-is : (c : tie.After-place) → c .place .result .0 ≡ functionOffset (c .before .before .before .before .before .args .functions .now) (c .before .before .before .before .before .args .row)
-    + 8 * c .before .before .before .before .before .args .slot
-place-is c =
-    omega (arith, c .place .ensures .0, c .before .slot-at .ensures, c .before .before .offset-at .ensures, c .before .before .before .function-offset .ensures)
+abbrev start : tie.After-slot-at → tie.Start
+start h = h .before .before .before
+
+place-is : (p : tie.After-place) → p .place .result .0
+    ≡ functionOffset (start (p .before) .args .functions .now) (start (p .before) .args .row) + 8 * start (p .before) .args .slot
+place-is p = omega (arith, p .place .ensures .0, p .before .slot-at .ensures, p .before .before .function-offset .ensures)
 
 function-offset-requires : tie.Need-function-offset-requires
 function-offset-requires c κs = search needs
-
-offset-at-requires : tie.Need-offset-at-requires
-offset-at-requires c κs = search needs
 
 slot-at-requires : tie.Need-slot-at-requires
 slot-at-requires c κs = search needs
 
 place-requires : tie.Need-place-requires
 place-requires c κs =
-    let s = c .before .before .before .before in
-    omega (arith, c .before .offset-at .ensures, c .before .before .function-offset .ensures, good-function (s .args .functions .now) (s .pre .0) (s .args .row) (s .pre .1) .offset)
+    let s = start c in
+    omega (arith, c .before .function-offset .ensures, good-function (s .args .functions .now) (s .pre .0) (s .args .row) (s .pre .1) .offset)
 
 function-section-requires : tie.Need-function-section-requires
 function-section-requires c κs = search needs
@@ -44,18 +43,18 @@ by-address-requires c κs = search needs
 
 returns : tie.Need-returns
 returns c =
-    let s = c .before .before .before .before .before .before .before .before in
+    let p = c .before .before .before in
+    let s = start (p .before) in
     let t = s .args .functions .now in
     c .by-address .ensures
     ∙ ap (λ (h : ℕ). orMissing (functionWith t h (toZ w64 (ofZ w64 (c .before .call-target .result))))) (c .before .before .function-section .ensures)
-    ∙ passed-on t (functionSection t (s .args .row)) (record { sfits = c .before .call-target .ok }) (c .before .call-target .ensures ∙ slots-from (s .fits .imm) (place-is (c .before .before .before)))
+    ∙ passed-on t (functionSection t (s .args .row)) (record { sfits = c .before .call-target .ok }) (c .before .call-target .ensures ∙ slots-from (s .fits .imm) (place-is p))
 
 pub by-place-spec : {M : Type 1} → statement M
 by-place-spec =
     tie.close
     (tie.spec
     function-offset-requires
-    offset-at-requires
     slot-at-requires
     place-requires
     function-section-requires

@@ -1,7 +1,6 @@
 -- Without a relocation a call leads from its own place and anything else nowhere; with one, its symbol leads.
 -- Assumes nothing.
 use mathlib.Core.Path.{sym, ap, _∙_, subst}
-use mathlib.Core.List.{[]}
 use Prim.Native.Nat.{_+_, _*_}
 use lib.IntN.{ℤ, pos, _+ℤ_}
 use mir.Syntax.{w32}
@@ -12,10 +11,11 @@ use Rattle.rules.specs.declared.Found.{Found}
 use Rattle.rules.specs.Object.{Insn, Named}
 use Rattle.rules.specs.Bytes.{little, slotIn}
 use Rattle.rules.specs.Tables.{orMissing, slotsOn, bySymbolRow, byRelocation}
-use Rattle.rules.specs.Rows.{wholeRows, functionSection, functionOffset, functionRow, relocationSymbol, relocationSize, relocationRow, symbolRow}
+use Rattle.rules.specs.Rows.{wholeRows, Offered, tablesOf, functionSection, functionOffset, functionRow, relocationSymbol, relocationSize, relocationRow, symbolRow}
+use Rattle.rules.specs.Lent.{offeredCode}
 use Rattle.rules.specs.Lookups.{functionWith, symbolWith}
 use Rattle.rules.proofs.Searches.{read}
-use Rattle.resolve.specs.Means.{optionOf, tablesIn}
+use Rattle.resolve.specs.Means.{optionOf, targets}
 use Rattle.resolve.specs.Resolves.{Within}
 use Rattle.resolve.proofs.Targets.{own-call, not-call, related}
 use Rattle.resolve.proofs.by_relocation.Statement.{statement}
@@ -27,14 +27,16 @@ start c = c .before .before .before .before .before .before .before
 abbrev start-at : tie.After-known-told → tie.Start
 start-at c = c .before .before .before .before .before .before .before .before
 
+abbrev tables : tie.Start → Offered
+tables s = offeredCode (s .args .code) (s .args .symbols) (s .args .functions) (s .args .relocations) (s .args .instructions)
+
 abbrev insn : tie.Start → Insn
 insn s = slotIn little (s .args .instructions .now) (s .args .at .0)
 
 abbrev named : tie.Start → Found → Named
 named s f =
-    let a = s .args in
-    byRelocation (tablesIn (a .code .now) (a .symbols .now) (a .functions .now) (a .relocations .now) (a .instructions .now))
-    (read (relocationRow (a .relocations .now)) (optionOf f)) (functionRow (a .functions .now) (a .row)) (a .slot) (insn s)
+    byRelocation (tablesOf little (tables s)) (read (relocationRow (tables s .relocations)) (optionOf f)) (functionRow (tables s .functions) (s .args .row))
+    (s .args .slot) (insn s)
 
 enum-told : tie.Need-enum-told
 enum-told c = search needs
@@ -56,7 +58,7 @@ returns c =
     c .by-place .ensures
     ∙ ap (λ (z : ℤ). orMissing (functionWith f (functionSection f (s .args .row)) (pos (functionOffset f (s .args .row) + 8 * s .args .slot) +ℤ slotsOn z)))
     (toZ-ofZ w32 _ (record { sfits = c .before .immediate .ok }) ∙ c .before .immediate .ensures)
-    ∙ sym (own-call (s .args .code .now) (s .args .symbols .now) f (s .args .relocations .now) (s .args .instructions .now) (s .args .row) (s .args .slot) (insn s)
+    ∙ sym (own-call (tables s) (s .args .row) (s .args .slot) (insn s)
     (sym (c .before .before .before .insn-is-call .ensures) ∙ c .before .before .if1 .taken))
     ∙ ap (named s) (sym (n .enum-told .given .1))
 
@@ -64,7 +66,7 @@ returns-2 : tie.Need-returns-2
 returns-2 c =
     let n = c .before .before in
     let s = start n in
-    sym (not-call (s .args .code .now) (s .args .symbols .now) (s .args .functions .now) (s .args .relocations .now) (s .args .instructions .now) (s .args .row) (s .args .slot) (insn s)
+    sym (not-call (tables s) (s .args .row) (s .args .slot) (insn s)
     (sym (c .before .insn-is-call .ensures) ∙ c .if1 .left))
     ∙ ap (named s) (sym (n .enum-told .given .1))
 
@@ -91,9 +93,10 @@ returns-3 c =
     let s = start-at k in
     let row = k .before .rel .given .0 .0 in
     c .by-row .ensures
-    ∙ ap (bySymbolRow (tablesIn (s .args .code .now) [] (s .args .functions .now) [] []) (read (symbolRow (s .args .symbols .now)) (symbolWith (s .args .symbols .now) (relocationSymbol (s .args .relocations .now) row)))
+    ∙ ap (bySymbolRow (targets (s .args .code .now) (s .args .functions .now))
+    (read (symbolRow (s .args .symbols .now)) (symbolWith (s .args .symbols .now) (relocationSymbol (s .args .relocations .now) row)))
     (relocationSize (s .args .relocations .now) row)) (toZ-ofZ w32 _ (record { sfits = c .before .immediate2 .ok }) ∙ c .before .immediate2 .ensures)
-    ∙ sym (related (s .args .code .now) (s .args .symbols .now) (s .args .functions .now) (s .args .relocations .now) (s .args .instructions .now) (s .args .row) (s .args .slot) (insn s) row)
+    ∙ sym (related (tables s) (s .args .row) (s .args .slot) (insn s) row)
     ∙ ap (named s) (sym (k .before .rel .given .1))
 
 pub by-relocation-spec : {M : Type 1} → statement M

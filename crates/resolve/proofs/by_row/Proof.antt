@@ -2,7 +2,6 @@
 -- Assumes nothing.
 use mathlib.Core.Path.{_≡_, sym, ap, _∙_}
 use mathlib.Core.Option.{Option}
-use mathlib.Core.List.{[]}
 use Prim.Native.Nat.{ℕ, _+_, _*_, _≤_}
 use native.Mathlib.Omega.{arith}
 use lib.ListN.{length}
@@ -18,7 +17,7 @@ use Rattle.rules.specs.Lookups.{foundOf, symbolWith}
 use Rattle.rules.proofs.Searches.{read}
 use Rattle.rules.proofs.Passed.{whole, good-symbol}
 use Rattle.rows.proofs.Laws.{SymbolFound, symbol-found}
-use Rattle.resolve.specs.Means.{optionOf, tablesIn}
+use Rattle.resolve.specs.Means.{optionOf, targets}
 use Rattle.resolve.proofs.Targets.{option-found}
 use Rattle.resolve.proofs.by_row.Statement.{statement}
 use Rattle.resolve.proofs.by_row.Tie as tie
@@ -35,7 +34,7 @@ found-is c = c .find-symbol .ensures ∙ ap (λ (n : ℕ). foundOf (symbolWith (
 abbrev bySymbolOf : (c : tie.After-find-symbol) → Option ℕ → Named
 bySymbolOf c o =
     let a = start c .args in
-    bySymbolRow (tablesIn (a .code .now) [] (a .functions .now) [] []) (read (symbolRow (a .symbols .now)) o) (relocationSize (a .relocations .now) (a .k)) (a .imm)
+    bySymbolRow (targets (a .code .now) (a .functions .now)) (read (symbolRow (a .symbols .now)) o) (relocationSize (a .relocations .now) (a .k)) (a .imm)
 
 as-found : (c : tie.After-find-symbol) {f : Found} → f ≡ c .find-symbol .result → bySymbolOf c (optionOf f) ≡ bySymbolOf c (symbolWith (start c .args .symbols .now) (index c))
 as-found c e = ap (λ (f : Found). bySymbolOf c (optionOf f)) (e ∙ found-is c) ∙ ap (bySymbolOf c) (option-found (symbolWith (start c .args .symbols .now) (index c)))

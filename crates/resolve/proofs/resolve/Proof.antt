@@ -8,26 +8,30 @@ use borrow.Author.Needs.{needs}
 use Rattle.rules.specs.Object.{isCall, decide}
 use Rattle.rules.specs.Bytes.{little, slotIn}
 use Rattle.rules.specs.Tables.{byRelocation}
-use Rattle.rules.specs.Rows.{functionSlots, functionRow, relocationRow}
+use Rattle.rules.specs.Rows.{tablesOf, functionSlots, functionRow, relocationRow}
+use Rattle.rules.specs.Lent.{offeredCode}
 use Rattle.rules.proofs.Searches.{read}
 use Rattle.insn.specs.Wide.{wideLoadIn}
-use Rattle.resolve.specs.Means.{namedOf, Means, optionOf, tablesIn}
+use Rattle.resolve.specs.Means.{namedOf, Means, optionOf}
 use Rattle.resolve.proofs.Slots.{row-low, slots-low, first-low, end-inside, rel-within, meaning-is}
 use Rattle.resolve.proofs.resolve.Statement.{statement}
 use Rattle.resolve.proofs.resolve.Tie as tie
 
+abbrev begun : tie.After-shared-slice-known5 → tie.Start
+begun k = k .before .before .before .before .before
+
 abbrev start : tie.After-slot-at2 → tie.Start
-start c = c .before .before .before .before .before .before .before .before
+start e = begun (e .before .before .before .before)
 
-at-is : (c : tie.After-slot-at2) → c .before .before .slot-at .result .0 ≡ start c .args .first + start c .args .slot
-at-is c = c .before .before .slot-at .ensures
+at-is : (e : tie.After-slot-at2) → e .before .before .before .slot-at .result .0 ≡ start e .args .first + start e .args .slot
+at-is e = e .before .before .before .slot-at .ensures
 
-end-is : (c : tie.After-slot-at2) → c .slot-at2 .result .0 ≡ start c .args .first + functionSlots (start c .args .functions .now) (start c .args .row)
-end-is c = c .slot-at2 .ensures ∙ ap (λ (n : ℕ). start c .args .first + n) (c .before .function-slots .ensures)
+end-is : (e : tie.After-slot-at2) → e .slot-at2 .result .0 ≡ start e .args .first + functionSlots (start e .args .functions .now) (start e .args .row)
+end-is e = e .slot-at2 .ensures ∙ ap (λ (n : ℕ). start e .args .first + n) (e .before .before .function-slots .ensures)
 
 add-slot-at : tie.Need-add-slot-at
 add-slot-at c =
-    let s = c .before .before .before .before .before in
+    let s = begun c in
     record { fits = omega (arith, first-low (s .pre), slots-low (s .pre), s .pre .slot-inside) }
 
 slot-at-requires : tie.Need-slot-at-requires
@@ -38,8 +42,9 @@ function-slots-requires c κs = search needs
 
 add-slot-at-2 : tie.Need-add-slot-at-2
 add-slot-at-2 c =
-    let s = c .before .before .before .before .before .before .before in
-    record { fits = omega (arith, first-low (s .pre), slots-low (s .pre), c .function-slots .ensures) }
+    let f = c .before in
+    let s = begun (f .before .before) in
+    record { fits = omega (arith, first-low (s .pre), slots-low (s .pre), f .function-slots .ensures) }
 
 slot-at-requires-2 : tie.Need-slot-at-requires-2
 slot-at-requires-2 c κs = search needs
@@ -84,7 +89,7 @@ returns c =
     (c .before .is-wide-load .ensures ∙ ap (λ (k : ℕ). wideLoadIn (a .instructions .now) k (n .slot-at2 .result .0)) (at-is n) ∙ ap (wideLoadIn (a .instructions .now) here) (end-is n))
     ∙ ap (decide (isCall (slotIn little (a .instructions .now) here)) (wideLoadIn (a .instructions .now) here (a .first + functionSlots (a .functions .now) (a .row))))
     (c .before .before .before .by-relocation .ensures
-    ∙ ap (λ (k : ℕ). byRelocation (tablesIn (a .code .now) (a .symbols .now) (a .functions .now) (a .relocations .now) (a .instructions .now))
+    ∙ ap (λ (k : ℕ). byRelocation (tablesOf little (offeredCode (a .code) (a .symbols) (a .functions) (a .relocations) (a .instructions)))
     (read (relocationRow (a .relocations .now)) (optionOf (a .rel))) (functionRow (a .functions .now) (a .row)) (a .slot) (slotIn little (a .instructions .now) k)) (at-is n))
     ∙ sym (meaning-is (s .pre)))
     (c .decide .ensures)

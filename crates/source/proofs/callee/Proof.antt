@@ -6,53 +6,52 @@ use Prim.Native.Nat.{ℕ, _+_, _*_}
 use native.Mathlib.Omega.{arith}
 use borrow.Author.Needs.{needs}
 use Rattle.rules.specs.Object as object
-use Rattle.rules.specs.Rows.{functionSection, functionOffset}
+use Rattle.rules.specs.Rows.{Offered, functionSection, functionOffset}
 use Rattle.rules.specs.Lookups.{foundOf, relocationWith}
-use Rattle.rules.specs.Tables.{objectOf}
+use Rattle.rules.specs.Lent.{offeredCode}
 use Rattle.rules.proofs.Passed.{good-function}
-use Rattle.resolve.specs.Means.{Means, tablesIn}
+use Rattle.resolve.specs.Means.{Means}
 use Rattle.resolve.specs.declared.Meaning.{Meaning}
 use Rattle.resolve.specs.declared.Meaning.the-variants.{Copied, Points, Refused}
-use Rattle.source.specs.Moves.{calledBy}
+use Rattle.source.specs.Moves.{objectIn, calledBy}
 use Rattle.source.proofs.callee.Statement.{statement}
 use Rattle.source.proofs.callee.Tie as tie
 
-abbrev start : tie.After-place → tie.Start
-start c = c .before .before .before .before .before .before .before .before .before
+abbrev start : tie.After-slot-at → tie.Start
+start h = h .before .before .before .before .before .before .before
 
-place-is : (c : tie.After-place) → c .place .result .0 ≡ functionOffset (start c .args .functions .now) (start c .args .row) + 8 * start c .args .slot
-place-is c =
-    omega (arith, c .place .ensures .0, c .before .slot-at .ensures, c .before .before .offset-at .ensures, c .before .before .before .function-offset .ensures)
+abbrev placed : tie.After-resolve → tie.After-place
+placed n = n .before .before .before
+
+abbrev asked : tie.After-resolve → tie.Start
+asked n = start (placed n .before)
+
+abbrev tables : tie.Start → Offered
+tables s = offeredCode (s .args .code) (s .args .symbols) (s .args .functions) (s .args .relocations) (s .args .instructions)
+
+place-is : (p : tie.After-place) → p .place .result .0
+    ≡ functionOffset (start (p .before) .args .functions .now) (start (p .before) .args .row) + 8 * start (p .before) .args .slot
+place-is p = omega (arith, p .place .ensures .0, p .before .slot-at .ensures, p .before .before .function-offset .ensures)
 
 -- what was resolved, of any answer
 meant : (n : tie.After-resolve) (q : Meaning) → n .resolve .result ≡ q
-    → Means (start (n .before .before .before) .args .row) (start (n .before .before .before) .args .slot) q
-    (object.meaning
-    (objectOf
-    (tablesIn (start (n .before .before .before) .args .code .now) (start (n .before .before .before) .args .symbols .now) (start (n .before .before .before) .args .functions .now)
-    (start (n .before .before .before) .args .relocations .now) (start (n .before .before .before) .args .instructions .now)))
-    (start (n .before .before .before) .args .row) (start (n .before .before .before) .args .slot))
+    → Means (asked n .args .row) (asked n .args .slot) q (object.meaning (objectIn (tables (asked n))) (asked n .args .row) (asked n .args .slot))
 meant n q e =
-    let a = start (n .before .before .before) .args in
-    subst (λ (m : Meaning). Means (a .row) (a .slot) m
-    (object.meaning (objectOf (tablesIn (a .code .now) (a .symbols .now) (a .functions .now) (a .relocations .now) (a .instructions .now))) (a .row) (a .slot))) e (n .resolve .ensures)
+    let a = asked n .args in
+    subst (λ (m : Meaning). Means (a .row) (a .slot) m (object.meaning (objectIn (tables (asked n))) (a .row) (a .slot))) e (n .resolve .ensures)
 
 function-offset-requires : tie.Need-function-offset-requires
 function-offset-requires c κs = search needs
-
-offset-at-requires : tie.Need-offset-at-requires
-offset-at-requires c κs = search needs
 
 slot-at-requires : tie.Need-slot-at-requires
 slot-at-requires c κs = search needs
 
 place-requires : tie.Need-place-requires
 place-requires c κs =
-    let s = c .before .before .before .before .before .before .before .before in
+    let s = start c in
     omega (
       arith,
-      c .before .offset-at .ensures,
-      c .before .before .function-offset .ensures,
+      c .before .function-offset .ensures,
       good-function (s .args .functions .now) (s .pre .tables .functions) (s .args .row) (s .pre .row-inside) .offset,
     )
 
@@ -65,7 +64,7 @@ find-relocation-requires c κs = search needs
 resolve-requires : tie.Need-resolve-requires
 resolve-requires c κs =
     let p = c .before .before in
-    let s = start p in
+    let s = start (p .before) in
     record {
       tables = s .pre .tables;
       row-inside = s .pre .row-inside;
@@ -88,14 +87,16 @@ enum-known-meaning c = search needs
 
 returns-2 : tie.Need-returns-2
 returns-2 c =
-    let f = c .before .before .meaning .given in
-    ap calledBy (sym (meant (c .before .before .before .before) (Points (f .0 .0) (f .0 .1 .0)) (f .1)
+    let m = c .before .before in
+    let f = m .meaning .given in
+    ap calledBy (sym (meant (m .before .before) (Points (f .0 .0) (f .0 .1 .0)) (f .1)
     ∙ ap (λ (b : Bool). cond b (object.reference (f .0 .0)) (object.call (f .0 .0))) (c .if1 .taken)))
 
 returns-3 : tie.Need-returns-3
 returns-3 c =
-    let f = c .before .before .meaning .given in
-    ap calledBy (sym (meant (c .before .before .before .before) (Points (f .0 .0) (f .0 .1 .0)) (f .1)
+    let m = c .before .before in
+    let f = m .meaning .given in
+    ap calledBy (sym (meant (m .before .before) (Points (f .0 .0) (f .0 .1 .0)) (f .1)
     ∙ ap (λ (b : Bool). cond b (object.reference (f .0 .0)) (object.call (f .0 .0))) (c .if1 .left)))
 
 enum-told-2 : tie.Need-enum-told-2
@@ -109,7 +110,6 @@ callee-spec =
     tie.close
     (tie.spec
     function-offset-requires
-    offset-at-requires
     slot-at-requires
     place-requires
     function-section-requires

@@ -1,7 +1,7 @@
--- The invariant: what was added up is the sum over the first k rows, of at most 4,096 slots each.
+-- The invariant: what was added up is the sum over the first k rows, each with no more slots than a function may have.
 -- Assumes nothing.
 use mathlib.Core.Path.{_≡_, refl, ap, _∙_}
-use Prim.Native.Nat.{ℕ, _-_, _≤_}
+use Prim.Native.Nat.{_-_, _≤_}
 use native.Mathlib.Omega.{arith}
 use Rattle.rules.specs.declared.Table.the-variants.{Functions}
 use Rattle.rules.specs.Rows.{mostFunctionSlots, functionSlots, summed}
@@ -24,7 +24,9 @@ function-slots-requires c κs = omega arith
 
 add-first : tie.Need-add-first Inv-loop μ-loop
 add-first c =
-    let l = c .before .before in
+    let n = c .before in
+    let i = n .before in
+    let l = i .before in
     let s = l .before .before in
     let t = s .args .functions .now in
     record {
@@ -32,11 +34,11 @@ add-first c =
           omega (
             arith,
             l .loop .inv .1,
-            c .function-slots .ensures,
+            n .function-slots .ensures,
             few-rows Functions t (s .pre .0),
-            good-function t (s .pre .0) (l .loop .k) (omega (arith, s .pre .1, c .before .loop-test .taken)) .slots-high,
+            good-function t (s .pre .0) (l .loop .k) (omega (arith, s .pre .1, i .loop-test .taken)) .slots-high,
             summed-bound (functionSlots t) mostFunctionSlots (l .loop .k)
-                (λ j h. good-function t (s .pre .0) j (omega (arith, s .pre .1, c .before .loop-test .taken)) .slots-high),
+                (λ j h. good-function t (s .pre .0) j (omega (arith, s .pre .1, i .loop-test .taken)) .slots-high),
           );
     }
 
@@ -48,9 +50,10 @@ loop-less c = omega arith
 
 loop-again : tie.Need-loop-again Inv-loop μ-loop
 loop-again c =
-    let l = c .before .before in
+    let n = c .before in
+    let l = n .before .before in
     let t = l .before .before .args .functions .now in
-    (omega arith, omega (arith, summed-step (functionSlots t) (l .loop .k), l .loop .inv .1, c .function-slots .ensures))
+    (omega arith, omega (arith, summed-step (functionSlots t) (l .loop .k), l .loop .inv .1, n .function-slots .ensures))
 
 returns : tie.Need-returns Inv-loop μ-loop
 returns c =

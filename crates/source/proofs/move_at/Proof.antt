@@ -1,6 +1,6 @@
 -- The slot of table 6 leads as one of an image does, but for its callee, which the tables name.
 -- Assumes nothing.
-use mathlib.Core.Path.{_≡_, refl, sym, ap, _∙_}
+use mathlib.Core.Path.{_≡_, sym, ap, _∙_}
 use mathlib.Core.Option.{Option}
 use Prim.Native.Nat.{ℕ, _+_}
 use native.Mathlib.Omega.{arith}
@@ -12,36 +12,41 @@ use borrow.Author.Needs.{needs}
 use Rattle.rules.specs.declared.Found.{Found}
 use Rattle.rules.specs.Object.{meaning}
 use Rattle.rules.specs.Bytes.{little, slotIn}
-use Rattle.rules.specs.Walk.{Move, SourcePlace, place, inSource}
+use Rattle.rules.specs.Rows.{Offered}
+use Rattle.rules.specs.Lent.{offeredCode}
+use Rattle.rules.specs.Walk.{Move, place, inSource}
 use Rattle.resolve.proofs.Slots.{first-low, slots-low, end-inside}
 use Rattle.walk.specs.Moves.{moveOf, leadsIn}
 use Rattle.walk.specs.declared.Move as move
 use Rattle.walk.specs.declared.Move.the-variants as found
-use Rattle.source.specs.Moves.{calledBy, enteredBy, moveFrom}
+use Rattle.source.specs.Moves.{objectIn, calledBy, enteredBy, moveFrom}
 use Rattle.source.specs.declared.SourceMove.the-variants.{Goes, Chooses}
-use Rattle.source.proofs.Sights.{objectIn, resolves, source-inside, sourced, sourced-is}
+use Rattle.source.proofs.Sights.{resolves, source-inside, sourced, sourced-is}
 use Rattle.source.proofs.move_at.Statement.{statement}
 use Rattle.source.proofs.move_at.Tie as tie
 
 abbrev start : tie.After-leads-at → tie.Start
 start n = n .before .before .before .before .before .before .before
 
+abbrev tables : tie.After-leads-at → Offered
+tables n = offeredCode (start n .args .code) (start n .args .symbols) (start n .args .functions) (start n .args .relocations) (start n .args .instructions)
+
 -- what the tables name here
 abbrev named : tie.After-leads-at → Found
 named n =
     let a = start n .args in
-    calledBy (meaning (objectIn (a .code .now) (a .symbols .now) (a .functions .now) (a .relocations .now) (a .instructions .now)) (a .row) (a .slot))
+    calledBy (meaning (objectIn (tables n)) (a .row) (a .slot))
 
 seen : (n : tie.After-leads-at) (m : move.Move) → n .leads-at .result ≡ m
     → sourced (start n .args .row) (named n) (moveOf m)
-    ≡ inSource (objectIn (start n .args .code .now) (start n .args .symbols .now) (start n .args .functions .now) (start n .args .relocations .now) (start n .args .instructions .now)) (place (start n .args .row) (pos (start n .args .slot)))
+    ≡ inSource (objectIn (tables n)) (place (start n .args .row) (pos (start n .args .slot)))
 seen n m e =
     let a = start n .args in
     ap (λ (o : Option (Move ℤ)). sourced (a .row) (named n) o)
     (ap moveOf (sym e) ∙ n .leads-at .ensures ∙ ap (λ (k : ℕ). leadsIn (slotIn little (a .instructions .now) k) (a .slot)) (n .before .slot-at .ensures))
     ∙ sym (source-inside (start n .pre .1)
     ∙ sourced-is (slotIn little (a .instructions .now) (a .first + a .slot)) (a .row) (a .slot)
-    (meaning (objectIn (a .code .now) (a .symbols .now) (a .functions .now) (a .relocations .now) (a .instructions .now)) (a .row) (a .slot)))
+    (meaning (objectIn (tables n)) (a .row) (a .slot)))
 
 add-slot-at : tie.Need-add-slot-at
 add-slot-at c =
@@ -86,7 +91,7 @@ enum-known-led-3 : tie.Need-enum-known-led-3
 enum-known-led-3 c = search needs
 
 callee-requires : tie.Need-callee-requires
-callee-requires c κs = c .before .before .before .before .before .before .before .before .before .before .pre .1
+callee-requires c κs = start (c .before .before .before) .pre .1
 
 entered-requires : tie.Need-entered-requires
 entered-requires c κs = search needs

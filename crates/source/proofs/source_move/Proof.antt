@@ -7,16 +7,21 @@ use lib.IntN.{ℤ}
 use mir.Syntax.{w64}
 use mir.ValLaws.{toZ-ofZ}
 use borrow.Author.Needs.{needs}
+use Rattle.rules.specs.Rows.{Offered}
+use Rattle.rules.specs.Lent.{offeredCode}
 use Rattle.rules.specs.Walk.{place, inSource}
 use Rattle.rules.proofs.Passed.{good-function}
 use Rattle.walk.proofs.Places.{slotFound, Lies, lies}
-use Rattle.source.specs.Moves.{slotsIn}
-use Rattle.source.proofs.Sights.{objectIn, source-outside, Inside, inside}
+use Rattle.source.specs.Moves.{objectIn, slotsIn}
+use Rattle.source.proofs.Sights.{source-outside, Inside, inside}
 use Rattle.source.proofs.source_move.Statement.{statement}
 use Rattle.source.proofs.source_move.Tie as tie
 
 abbrev start : tie.After-slot-in → tie.Start
 start n = n .before .before .before .before .before .before .before
+
+abbrev tables : tie.After-slot-in → Offered
+tables n = offeredCode (start n .args .code) (start n .args .symbols) (start n .args .functions) (start n .args .relocations) (start n .args .instructions)
 
 found-is : (n : tie.After-slot-in) → n .slot-in .result ≡ slotFound (slotsIn (start n .args .functions .now) (start n .args .row)) (start n .args .at)
 found-is n =
@@ -43,7 +48,7 @@ returns : tie.Need-returns
 returns c =
     let n = c .before .before in
     let a = start n .args in
-    sym (source-outside (a .code .now) (a .symbols .now) (a .functions .now) (a .relocations .now) (a .instructions .now) (a .row) (a .at) (sym (c .enum-told .given .1) ∙ found-is n))
+    sym (source-outside (tables n) (a .row) (a .at) (sym (c .enum-told .given .1) ∙ found-is n))
 
 enum-known-found : tie.Need-enum-known-found
 enum-known-found c = search needs
@@ -70,9 +75,10 @@ move-at-requires c κs =
 returns-2 : tie.Need-returns-2
 returns-2 c =
     let f = c .before .before .before in
-    let a = start (f .before .before) .args in
+    let n = f .before .before in
+    let a = start n .args in
     c .move-at .ensures
-    ∙ ap (λ (z : ℤ). inSource (objectIn (a .code .now) (a .symbols .now) (a .functions .now) (a .relocations .now) (a .instructions .now)) (place (a .row) z)) (sym (lies-at f .place))
+    ∙ ap (λ (z : ℤ). inSource (objectIn (tables n)) (place (a .row) z)) (sym (lies-at f .place))
 
 pub source-move-spec : {M : Type 1} → statement M
 source-move-spec =

@@ -1,53 +1,48 @@
 -- Tables that are refused are not walked; those that pass are checked, and the run is the definition's.
 -- Assumes nothing.
-use mathlib.Core.Path.{_≡_, refl, ap}
-use mathlib.Core.List.{[]}
+use mathlib.Core.Path.{_≡_, refl, sym, ap, _∙_}
 use borrow.Author.Needs.{needs}
-use Rattle.rules.specs.Answers.{replyOf}
-use Rattle.rules.specs.Rows.{Offered, mapStepOffer}
-use Rattle.tables.proofs.Refusals.{not-done}
-use Rattle.source.proofs.Entry.{refuses, checks, no-row, walks}
+use Rattle.rules.specs.declared.Judgement.{Judgement}
+use Rattle.rules.specs.Answers.{refusalIn}
+use Rattle.rules.specs.Lent.{offeredCode}
+use Rattle.rules.specs.Rows.{Offered}
+use Rattle.source.specs.Steps.{walkRefusal}
+use Rattle.source.proofs.Entry.{checks}
 use Rattle.source.proofs.walk_source.Statement.{statement}
 use Rattle.source.proofs.walk_source.Tie as tie
 
-abbrev offered : tie.Start → Offered
-offered s = mapStepOffer (s .args .code .now) (s .args .symbols .now) (s .args .functions .now) (s .args .relocations .now) [] (s .args .instructions .now)
+abbrev start : tie.After-check-source → tie.Start
+start n = n .before .before .before .before .before .before .before .before
 
-array-share-prefix-none : tie.Need-array-share-prefix-none
-array-share-prefix-none c = search needs
+abbrev tables : tie.After-check-source → Offered
+tables n = offeredCode (start n .args .code) (start n .args .symbols) (start n .args .functions) (start n .args .relocations) (start n .args .instructions)
 
-slice-aggregate-check-map-step : tie.Need-slice-aggregate-check-map-step
-slice-aggregate-check-map-step c = search needs
+said : (n : tie.After-check-source) (j : Judgement) → n .check-source .result ≡ j → walkRefusal (tables n) (start n .args .root) ≡ refusalIn j
+said n j e = sym (n .check-source .ensures) ∙ ap refusalIn e
 
-check-map-step-requires : tie.Need-check-map-step-requires
-check-map-step-requires c κs = search needs
+check-source-requires : tie.Need-check-source-requires
+check-source-requires c κs = search needs
 
-enum-told : tie.Need-enum-told
-enum-told c = search needs
+enum-known-checked : tie.Need-enum-known-checked
+enum-known-checked c = search needs
 
 returns : tie.Need-returns
 returns c =
-    let s = c .before .before .before .before .before .before .before .before .before .before in
-    let a = c .before .check-map-step in
-    (refuses (offered s) (s .args .root) (a .result) (a .ensures) (not-done (a .result) (c .match .keys2)), refl)
+    let f = c .before in
+    (said (f .before .before) _ (f .checked .given .1), refl)
 
-returns-2 : tie.Need-returns-2
-returns-2 c =
-    let s = c .before .before .before .before .before .before .before .before .before .before .before .before in
-    let a = c .before .before .before .check-map-step in
-    (no-row (offered s) (s .args .root) (a .result) (a .ensures) (ap (λ x. replyOf x .number) (c .before .enum-told .given .1)) (c .if1 .taken), refl)
+enum-told : tie.Need-enum-told
+enum-told c = search needs
 
 table-requires : tie.Need-table-requires
 table-requires c κs = search needs
 
 source-run-requires : tie.Need-source-run-requires
 source-run-requires c κs =
-    let s = c .before .before .before .before .before .before .before .before .before .before .before .before .before .before .before .before in
-    let a = c .before .before .before .before .before .before .before .check-map-step in
-    record {
-      table = c .before .before .before .table .ensures;
-      tables = checks (offered s) (s .args .root) (a .result) (a .ensures) (ap (λ x. replyOf x .number) (c .before .before .before .before .before .enum-told .given .1));
-    }
+    let t = c .before .before .before in
+    let p = t .before in
+    let n = p .before .before in
+    record { table = t .table .ensures; tables = checks (tables n) (start n .args .root) (said n _ (p .enum-told .given .1)) }
 
 same-length : tie.Need-same-length
 same-length c = search needs
@@ -55,26 +50,22 @@ same-length c = search needs
 same-length-2 : tie.Need-same-length-2
 same-length-2 c = search needs
 
-returns-3 : tie.Need-returns-3
-returns-3 c =
-    let s = c .before .before .before .before .before .before .before .before .before .before .before .before .before .before .before .before .before .before .before .before in
-    let a = c .before .before .before .before .before .before .before .before .before .before .before .check-map-step in (
-      walks (offered s) (s .args .root) (a .result) (a .ensures) (ap (λ x. replyOf x .number) (c .before .before .before .before .before .before .before .before .before .enum-told .given .1)) (c .before .before .before .before .before .before .before .before .if1 .left),
-      c .before .before .before .source-run .ensures,
-    )
+returns-2 : tie.Need-returns-2
+returns-2 c =
+    let r = c .before .before .before in
+    let p = r .before .before .before .before .before in
+    (said (p .before .before) _ (p .enum-told .given .1), r .source-run .ensures)
 
 pub walk-source-spec : {M : Type 1} → statement M
 walk-source-spec =
     tie.close
     (tie.spec
-    array-share-prefix-none
-    slice-aggregate-check-map-step
-    check-map-step-requires
-    enum-told
+    check-source-requires
+    enum-known-checked
     returns
-    returns-2
+    enum-told
     table-requires
     source-run-requires
     same-length
     same-length-2
-    returns-3)
+    returns-2)

@@ -4,10 +4,9 @@
 use mathlib.Core.Path.{_≡_, refl, sym, _∙_, ap, subst}
 use Prim.Native.Nat.{ℕ, _+_, _-_, _*_, _≤_, _<_, _^_}
 use native.Mathlib.Omega.{arith}
-use native.Mathlib.Numerals.{add-one}
 use mathlib.Core.Bool.{Bool, true, false, not}
 use mathlib.Core.List.{List, [], _∷_}
-use mathlib.Core.WellFounded.{WellFounded, InvImage·wf}
+use mathlib.Core.WellFounded.{InvImage·wf}
 use lib.Dec.{T, ltb, eqb, lt→ltb, ltb→lt, nltb→le, T-not, lit<}
 use lib.ListN.{length, getD}
 use lib.WfN.{Nat·lt-wfRel}
@@ -19,7 +18,7 @@ use base.Logic.{SProp, ent, emp, via, fst∗}
 use base.Fml.{Lft, GName, Share, ftrue, flft, fres, fobor, fshr-bor, fat, froom, fdies}
 use prog.Memory.{Memory}
 use prog.Routine.{Routine}
-use prog.Wp.{Heap, Out, Env, Calls, Loops, Wp, WpFn, Tables, afterSeq, afterBlock, afterTurn, atReturn}
+use prog.Wp.{Heap, Out, Env, Wp, WpFn, Tables, afterSeq, afterBlock, afterTurn, atReturn}
 use ghost.Atoms.{Atoms}
 use contract.Monad.{Fun}
 use contract.Running.{givenOf, tables, tablesOf}
@@ -48,7 +47,8 @@ use denote.Exit.{yes}
 use Rattle.symbols.specs.declared.Symbol.{Symbol}
 use Rattle.rules.specs.declared.Found.{Found}
 use Rattle.rules.specs.declared.Found.the-variants.{At, Nothing}
-use Rattle.rules.specs.Rows.{firstFrom}
+use Rattle.rules.specs.declared.Table.the-variants.{Symbols}
+use Rattle.rules.specs.Rows.{rowSize}
 use Rattle.rules.specs.Lookups.{foundOf, symbolWith}
 use Rattle.rows.specs.Matches.{symbolMatches}
 use Rattle.rows.proofs.Scan.{Scanned, scan-start, scan-on, scan-hit, scan-end}
@@ -79,7 +79,7 @@ fails : (t : Bool) → (T t → ⊥) → t ≡ false
 fails true f = absurd (f tt)
 fails false _ = refl
 
-place-fits : (i n : ℕ) → i < n → n * 24 < 2 ^ 63 → i * 24 < 2 ^ 64
+place-fits : (i n : ℕ) → i < n → n * rowSize Symbols < 2 ^ 63 → i * rowSize Symbols < 2 ^ 64
 place-fits i n l g = omega arith
 
 place-is-word : (i n : ℕ) → i < n → n < 2 ^ 64 → i < 2 ^ 64
@@ -193,7 +193,7 @@ module _ {M : Type 1} (𝓤 : URA M) (H : Heap 𝓤) (A : Atoms 𝓤) (W : Given
           stays ! (load ! (from ! (stop !)) (look ! 9 refl)) $
           assigns ! (bin ! (load ! (from ! (stop !)) (look ! 13 refl)) (lit ! tt) (record { fits = place-fits (s .i) n l (gn .1) })) (from ! (stop !)) (store ! 11 refl (tt, record { fits = place-fits (s .i) n l (gn .1) })) $
           assigns ! (bin ! (load ! (from ! (fld ! refl (stop !))) (look-in ! 17 (sub ! 0 refl (whole !)))) (load ! (from ! (stop !)) (look ! 11 refl)) tt) (from ! (stop !)) (init ! 7 refl (tt, tt)) $
-          rewrite ! 7 (λ (p : ℕ). ‵ (fat fullShare tyPtr l₆ 0 (vptr b p))) (sym (place-is 24 o (s .i))) refl $
+          rewrite ! 7 (λ (p : ℕ). ‵ (fat fullShare tyPtr l₆ 0 (vptr b p))) (sym (place-is (rowSize Symbols) o (s .i))) refl $
           elem-out ! T.the-row (Is T.the-row) (shows 𝓤 H A T.the-row) vals (LL.tells T.the-type T′.the-laws) q′ ys (s .i) noSymbol b o l (λ g.
           -- [rows[i]; what it owns; the others; what shuts; the slice, 3; _7; …; _0; …]
           assigns ! (of-opd ! (load ! (from ! (hop ! (look ! 9 refl) (fld ! refl (stop !)))) (look-in ! 0 (sub ! 0 refl (whole !))))) (from ! (stop !)) (init ! 7 refl (tt, record { fits = index-fits (s .i) g })) $

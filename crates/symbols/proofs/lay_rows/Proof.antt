@@ -31,7 +31,7 @@ use sound.WpLaws.{fmOf, WpFn-mono}
 use denote.RattleType.{owns}
 use denote.Laws.{Is, shows}
 use denote.Memory.{shares, pointee}
-use denote.Plain.{uint-vals, uint-tells, uint-makes, uint-lawful, nothing-lawful}
+use denote.Plain.{uint-makes, uint-lawful, nothing-lawful}
 use denote.Builtin.{u8, usize, unit}
 use denote.Ref.{RefT}
 use denote.Slice.{sliceTy, sliceVal, ShrSlice, MutSlice, Room, slice-vals, shr-slice-tells, mut-slice-tells, at-slice, codedHoleys, heres}
@@ -85,7 +85,7 @@ fails : (t : Bool) → (T t → ⊥) → t ≡ false
 fails true f = absurd (f tt)
 fails false _ = refl
 
-place-fits : (i n : ℕ) → i < n → n * 24 < 2 ^ 63 → i * 24 < 2 ^ 64
+place-fits : (i n : ℕ) → i < n → n * rowSize Symbols < 2 ^ 63 → i * rowSize Symbols < 2 ^ 64
 place-fits i n l g = omega arith
 
 place-is-word : (i n : ℕ) → i < n → n < 2 ^ 64 → i < 2 ^ 64
@@ -235,7 +235,7 @@ module _ {M : Type 1} (𝓤 : URA M) (H : Heap 𝓤) (A : Atoms 𝓤) (W : Given
           assigns ! (agg ! (and-then ! (load ! (from ! (stop !)) (look ! 15 refl)) (and-then ! (load ! (from ! (fld ! refl (stop !))) (look-in ! 29 (sub ! 1 refl (whole !)))) (no-more !)))) (from ! (stop !)) (init ! 13 refl (tt, (tt, (record { fits = gm .0 }, tt)))) $
           assigns ! (bin ! (load ! (from ! (stop !)) (look ! 25 refl)) (lit ! tt) (record { fits = place-fits (s .i) n (there s l) (gn .1) })) (from ! (stop !)) (init ! 11 refl (tt, record { fits = place-fits (s .i) n (there s l) (gn .1) })) $
           assigns ! (bin ! (load ! (from ! (fld ! refl (stop !))) (look-in ! 31 (sub ! 0 refl (whole !)))) (load ! (from ! (stop !)) (look ! 11 refl)) tt) (from ! (stop !)) (init ! 9 refl (tt, tt)) $
-          rewrite ! 9 (λ (k : ℕ). ‵ (fat fullShare tyPtr l₁₂ 0 (vptr b k))) (sym (place-is 24 o (s .i))) refl $
+          rewrite ! 9 (λ (k : ℕ). ‵ (fat fullShare tyPtr l₁₂ 0 (vptr b k))) (sym (place-is (rowSize Symbols) o (s .i))) refl $
           elem-out ! T.the-row (Is T.the-row) (shows 𝓤 H A T.the-row) vals (LL.tells T.the-type T′.the-laws) q′ ys (s .i) noSymbol b o (there s l) (λ g.
           -- [rows[i]; what it owns; the others; what shuts; the rows' slice, 3; Out; κ₁'s token; _13; …; _0; …]: the row is copied whole
           assigns ! (of-opd ! (load ! (from ! (hop ! (look ! 11 refl) (stop !))) (look-raw ! 0 refl))) (from ! (stop !)) (init ! 9 refl (LL.lawful T.the-type T′.the-laws 𝓤 H A W .typed (getD ys (s .i) noSymbol) _ g .0)) $

@@ -1,14 +1,29 @@
 -- The fields are put one after another, each where the last one ends.
 -- Assumes nothing.
-use mathlib.Core.Path.{_≡_, ap, _∙_}
-use Prim.Native.Nat.{ℕ, _+_, _*_, _≤_}
+use mathlib.Core.Path.{_≡_, _∙_}
+use Prim.Native.Nat.{_*_}
 use native.Mathlib.Omega.{arith}
 use lib.ListN.{length, length-set}
+use Rattle.rules.specs.declared.Table.the-variants.{Symbols}
+use Rattle.rules.specs.Rows.{rowSize}
 use Rattle.symbols.proofs.Laws.{row-put}
 use Rattle.symbols.proofs.Fits.{padding-seven}
 use borrow.Author.Needs.{needs}
 use Rattle.symbols.proofs.put_row.Statement.{statement}
 use Rattle.symbols.proofs.put_row.Tie as tie
+
+-- the fields put, from the last back
+abbrev sectioned : tie.After-put-u64 → tie.After-put-u322
+sectioned a = a .before .before .before .before
+
+abbrev indexed : tie.After-put-u64 → tie.After-put-u32
+indexed a = sectioned a .before .before .before .before
+
+abbrev start : tie.After-put-u64 → tie.Start
+start a = indexed a .before .before .before
+
+seven : (a : tie.After-put-u64) → length (start a .args .s .padding) ≡ 7
+seven a = padding-seven (start a .args .s) _ (start a .good .1 .1 .0)
 
 mul-at : tie.Need-mul-at
 mul-at c = search needs
@@ -41,25 +56,24 @@ slice-aggregate-copy : tie.Need-slice-aggregate-copy
 slice-aggregate-copy c = search needs
 
 copy-requires : tie.Need-copy-requires
-copy-requires c κs = (
-  rw length-set (omega (arith, c .before .before .before .before .before .put-u64 .kept .0, c .before .before .before .before .before .before .before .before .before .put-u322 .kept .0, c .before .before .before .before .before .before .before .before .before .before .before .before .before .put-u32 .kept .0, c .before .before .before .before .before .before .before .before .before .before .before .before .before .before .before .before .pre)),
-  omega (arith, padding-seven (c .before .before .before .before .before .before .before .before .before .before .before .before .before .before .before .before .args .s) _ (c .before .before .before .before .before .before .before .before .before .before .before .before .before .before .before .before .good .1 .1 .0)),
-)
+copy-requires c κs =
+    let a = c .before .before .before .before .before in
+    (rw length-set (omega (arith, a .put-u64 .kept .0, sectioned a .put-u322 .kept .0, indexed a .put-u32 .kept .0, start a .pre)), omega (arith, seven a))
 
 same-length : tie.Need-same-length
 same-length c =
-    c .before .before .copy .kept .0
-    ∙ length-set (c .before .before .before .before .before .before .before .before .put-u64 .last .0) _ _
-    ∙ c .before .before .before .before .before .before .before .before .put-u64 .kept .0
-    ∙ c .before .before .before .before .before .before .before .before .before .before .before .before .put-u322 .kept .0
-    ∙ c .before .before .before .before .before .before .before .before .before .before .before .before .before .before .before .before .put-u32 .kept .0
+    let p = c .before .before in
+    let a = p .before .before .before .before .before .before in
+    p .copy .kept .0 ∙ length-set (a .put-u64 .last .0) _ _ ∙ a .put-u64 .kept .0 ∙ sectioned a .put-u322 .kept .0 ∙ indexed a .put-u32 .kept .0
 
 returns : tie.Need-returns
 returns c =
-    let a = c .before .before .before .before .before .before .before .before .before .before .before .before .before .before .before .before .before .before .before .args in
-    c .before .before .copy .ensures
-    ∙ row-put (a .out .now) (24 * a .k) (a .s) (c .before .before .before .before .before .before .before .before .before .before .before .before .before .before .before .before .put-u32 .last .0) (c .before .before .before .before .before .before .before .before .before .before .before .before .put-u322 .last .0) (c .before .before .before .before .before .before .before .before .put-u64 .last .0)
-    (c .before .before .before .before .before .before .before .before .before .before .before .before .before .before .before .before .before .before .before .pre) (padding-seven (a .s) _ (c .before .before .before .before .before .before .before .before .before .before .before .before .before .before .before .before .before .before .before .good .1 .1 .0)) (c .before .before .before .before .before .before .before .before .before .before .before .before .before .before .before .before .put-u32 .ensures) (c .before .before .before .before .before .before .before .before .before .before .before .before .put-u322 .ensures) (c .before .before .before .before .before .before .before .before .put-u64 .ensures)
+    let p = c .before .before in
+    let a = p .before .before .before .before .before .before in
+    let s = start a in
+    p .copy .ensures
+    ∙ row-put (s .args .out .now) (rowSize Symbols * s .args .k) (s .args .s) (indexed a .put-u32 .last .0) (sectioned a .put-u322 .last .0) (a .put-u64 .last .0) (s .pre)
+    (seven a) (indexed a .put-u32 .ensures) (sectioned a .put-u322 .ensures) (a .put-u64 .ensures)
 
 pub put-row-spec : {M : Type 1} → statement M
 put-row-spec =

@@ -1,6 +1,6 @@
 -- Two stores side by side are one splice of both.
 -- Assumes nothing.
-use mathlib.Core.Path.{_≡_, ap, _∙_}
+use mathlib.Core.Path.{ap, _∙_}
 use mathlib.Core.List.{List}
 use Prim.Native.Nat.{ℕ, _+_, _/_, _%_}
 use native.Mathlib.Omega.{arith}
@@ -30,10 +30,13 @@ same-length c = search needs
 
 returns : tie.Need-returns
 returns c =
-    let a = c .before .before .before .before .before .before .before .before .before .args in
-    c .before .before .put-u322 .ensures
-    ∙ ap (λ (l : List ℕ). splice l (a .at + 4) (bytes4 little (a .v / 0x1_0000_0000))) (c .before .before .before .before .before .before .put-u32 .ensures)
-    ∙ splice-on (a .out .now) (a .at) (a .at + 4) (bytes4 little (a .v % 0x1_0000_0000)) (bytes4 little (a .v / 0x1_0000_0000)) (omega arith) (omega (arith, c .before .before .before .before .before .before .before .before .before .pre))
+    let high = c .before .before in
+    let low = high .before .before .before .before in
+    let s = low .before .before .before in
+    let a = s .args in
+    high .put-u322 .ensures
+    ∙ ap (λ (l : List ℕ). splice l (a .at + 4) (bytes4 little (a .v / 0x1_0000_0000))) (low .put-u32 .ensures)
+    ∙ splice-on (a .out .now) (a .at) (a .at + 4) (bytes4 little (a .v % 0x1_0000_0000)) (bytes4 little (a .v / 0x1_0000_0000)) (omega arith) (omega (arith, s .pre))
 
 pub put-u64-spec : {M : Type 1} → statement M
 put-u64-spec =

@@ -5,16 +5,19 @@ use Rattle.clerk.proofs.listing.rows.Statement.{statement}
 use Rattle.clerk.proofs.listing.rows.Tie as tie
 
 abbrev Inv-loop : tie.InvT-loop
-Inv-loop own pieces image lines n slot₀ slot = slot ≤ n
+Inv-loop own pieces image lines slots slot₀ slot = slot ≤ slots
 
 abbrev μ-loop : tie.MeasureT-loop
-μ-loop own pieces image lines n slot₀ slot = n - slot
+μ-loop own pieces image lines slots slot₀ slot = slots - slot
 
 loop-holds : tie.Need-loop-holds Inv-loop μ-loop
 loop-holds c = search needs
 
 row-requires : tie.Need-row-requires Inv-loop μ-loop
 row-requires c κs = search needs
+
+say-requires : tie.Need-say-requires Inv-loop μ-loop
+say-requires c κs = search needs
 
 returns : tie.Need-returns Inv-loop μ-loop
 returns c = search needs
@@ -39,6 +42,7 @@ rows-spec =
     μ-loop
     loop-holds
     row-requires
+    say-requires
     returns
     add-slot
     loop-less

@@ -10,7 +10,7 @@ use Rattle.rows.proofs.find.find_relocation.Statement.{statement}
 use Rattle.rows.proofs.find.find_relocation.Tie as tie
 
 abbrev Inv-loop : tie.InvT-loop
-Inv-loop t home offset n k₀ k = Scanned (relocationMatches t home offset) n k
+Inv-loop t home offset n k₀ k = Scanned (relocationMatches t home (offset .0)) n k
 
 abbrev μ-loop : tie.MeasureT-loop
 μ-loop t home offset n k₀ k = n - k

@@ -49,11 +49,11 @@ returns c =
     let s = c .before .before .before in
     rw (at-negative _ (s .args .address) (rw (itself s) at (c .if1 .taken)), neither)
 
+cast-target : tie.Need-cast-t8
+cast-target c = rw (itself (c .before .before .before)) (own c .positive, own c .small)
+
 function-address-requires : tie.Need-function-address-requires
 function-address-requires c κs = search needs
-
-cast-same-place : tie.Need-cast-same-place
-cast-same-place c = rw (itself (c .before .before .before .before)) (own (c .before) .positive, own (c .before) .small)
 
 same-place-requires : tie.Need-same-place-requires
 same-place-requires c κs = search needs
@@ -71,7 +71,7 @@ is-function-spec =
     (tie.spec
     function-section-requires
     returns
+    cast-target
     function-address-requires
-    cast-same-place
     same-place-requires
     returns-2)

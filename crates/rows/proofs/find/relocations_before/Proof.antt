@@ -8,7 +8,7 @@ use Rattle.rows.proofs.find.relocations_before.Statement.{statement}
 use Rattle.rows.proofs.find.relocations_before.Tie as tie
 
 abbrev Inv-loop : tie.InvT-loop
-Inv-loop t home offset low₀ high₀ low high = Narrowed t home offset low high
+Inv-loop t home offset low₀ high₀ low high = Narrowed t home (offset .0) low high
 
 abbrev μ-loop : tie.MeasureT-loop
 μ-loop t home offset low₀ high₀ low high = high - low

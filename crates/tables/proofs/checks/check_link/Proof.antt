@@ -3,18 +3,21 @@
 use mathlib.Core.Path.{ap}
 use borrow.Author.Needs.{needs}
 use Rattle.rules.specs.declared.Table.the-variants.{Code, Symbols, Functions, Relocations, Instructions, FuncInfo, LineInfo}
-use Rattle.rules.specs.Answers.{replyOf}
+use Rattle.rules.specs.Answers.{refusalIn}
 use Rattle.rules.specs.Rows.{Offered, linkOffer, linkTables, linkRefusal, broken, brokenIn, noRoot, orElse}
-use Rattle.tables.proofs.Refusals.{AllFew, ManyIs, many-end, many-next, few-passed, many-refused, not-done, broken-end, broken-next, then-broken}
+use Rattle.tables.proofs.Refusals.{AllFew, ManyIs, many-end, many-next, few-passed, many-refused, stands, broken-end, broken-next, then-broken}
 use Rattle.tables.proofs.checks.check_link.Statement.{statement}
 use Rattle.tables.proofs.checks.check_link.Tie as tie
 
+abbrev start : tie.After-or-too-many7 → tie.Start
+start c = c .before .before .before .before .before .before .before .before .before .before .before .before .before .before
+
 abbrev offered : tie.After-or-too-many7 → Offered
 offered c =
-    let a = c .before .before .before .before .before .before .before .before .before .before .before .before .before .before .args in
+    let a = start c .args in
     linkOffer (a .code .now) (a .symbols .now) (a .functions .now) (a .relocations .now) (a .instructions .now) (a .func-info .now) (a .line-info .now)
 
-first-refusal : (c : tie.After-or-too-many7) → ManyIs (offered c) linkTables (replyOf (c .or-too-many7 .result))
+first-refusal : (c : tie.After-or-too-many7) → ManyIs (offered c) linkTables (refusalIn (c .or-too-many7 .result))
 first-refusal c =
     many-next Code (c .or-too-many7 .ensures)
     (many-next Symbols (c .before .or-too-many6 .ensures)
@@ -26,7 +29,7 @@ first-refusal c =
     (many-end (offered c))))))))
 
 few : (c : tie.After-enum-told) → AllFew (offered (c .before .before)) linkTables
-few c = few-passed (first-refusal (c .before .before)) (ap (λ x. replyOf x .number) (c .enum-told .given .1))
+few c = few-passed (first-refusal (c .before .before)) (ap refusalIn (c .enum-told .given .1))
 
 or-too-many-requires : tie.Need-or-too-many-requires
 or-too-many-requires c κs = search needs
@@ -52,11 +55,18 @@ or-too-many-requires-7 c κs = search needs
 enum-told : tie.Need-enum-told
 enum-told c = search needs
 
+enum-told-2 : tie.Need-enum-told-2
+enum-told-2 c = search needs
+
+abbrev judged : tie.After-enum-told2 → tie.After-or-too-many7
+judged c = c .before .before
+
 returns : tie.Need-returns
 unfolding linkRefusal
 returns c =
-    let o = offered (c .before) in
-    many-refused (first-refusal (c .before)) (orElse (broken o linkTables) (noRoot o (c .before .before .before .before .before .before .before .before .before .before .before .before .before .before .before .args .root))) (not-done (c .before .or-too-many7 .result) (c .match .keys2))
+    let o = offered (judged c) in
+    let later = orElse (broken o linkTables) (noRoot o (start (judged c) .args .root)) in
+    many-refused (first-refusal (judged c)) later (stands (judged c .or-too-many7 .result) (c .before .match .keys2) later)
 
 or-no-root-requires : tie.Need-or-no-root-requires
 or-no-root-requires c κs = search needs
@@ -85,8 +95,9 @@ or-broken-requires-4 c κs = few (c .before .before .before .before .before .bef
 returns-2 : tie.Need-returns-2
 unfolding linkRefusal brokenIn
 returns-2 c =
-    let o = offered (c .before .before .before .before .before .before .before .before .before .before) in
-    then-broken o linkTables (noRoot o (c .before .before .before .before .before .before .before .before .before .before .before .before .before .before .before .before .before .before .before .before .before .before .before .before .args .root)) (few (c .before .before .before .before .before .before .before .before))
+    let passed = c .before .before .before .before .before .before .before .before in
+    let o = offered (passed .before .before) in
+    then-broken o linkTables (noRoot o (start (passed .before .before) .args .root)) (few passed)
     (broken-next Code (c .or-broken4 .ensures)
     (broken-next Symbols (c .before .or-broken3 .ensures)
     (broken-next Functions (c .before .before .or-broken2 .ensures)
@@ -108,6 +119,7 @@ check-link-spec =
     or-too-many-requires-6
     or-too-many-requires-7
     enum-told
+    enum-told-2
     returns
     or-no-root-requires
     or-wrong-total-requires

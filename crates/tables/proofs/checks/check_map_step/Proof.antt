@@ -4,9 +4,9 @@ use mathlib.Core.Path.{refl, ap, _∙_}
 use mathlib.Core.Option.{none}
 use borrow.Author.Needs.{needs}
 use Rattle.rules.specs.declared.Table.the-variants.{Code, Symbols, Functions, Relocations, Maps, Instructions}
-use Rattle.rules.specs.Answers.{replyOf}
-use Rattle.rules.specs.Rows.{Offered, mapStepOffer, mapStepTables, mapStepRefusal, tooMany, broken, brokenIn, orElse, orDone}
-use Rattle.tables.proofs.Refusals.{AllFew, ManyIs, many-end, many-next, few-passed, many-refused, not-done, broken-end, broken-next, then-broken, or-none}
+use Rattle.rules.specs.Answers.{refusalIn}
+use Rattle.rules.specs.Rows.{Offered, mapStepOffer, mapStepTables, mapStepRefusal, tooMany, broken, brokenIn, orElse}
+use Rattle.tables.proofs.Refusals.{AllFew, ManyIs, many-end, many-next, few-passed, many-refused, stands, broken-end, broken-next, then-broken, or-none}
 use Rattle.tables.proofs.checks.check_map_step.Statement.{statement}
 use Rattle.tables.proofs.checks.check_map_step.Tie as tie
 
@@ -15,7 +15,7 @@ offered c =
     let a = c .before .before .before .before .before .before .before .before .before .before .before .before .args in
     mapStepOffer (a .code .now) (a .symbols .now) (a .functions .now) (a .relocations .now) (a .maps .now) (a .instructions .now)
 
-first-refusal : (c : tie.After-or-too-many6) → ManyIs (offered c) mapStepTables (replyOf (c .or-too-many6 .result))
+first-refusal : (c : tie.After-or-too-many6) → ManyIs (offered c) mapStepTables (refusalIn (c .or-too-many6 .result))
 first-refusal c =
     many-next Code (c .or-too-many6 .ensures)
     (many-next Symbols (c .before .or-too-many5 .ensures)
@@ -26,7 +26,7 @@ first-refusal c =
     (many-end (offered c)))))))
 
 few : (c : tie.After-enum-told) → AllFew (offered (c .before .before)) mapStepTables
-few c = few-passed (first-refusal (c .before .before)) (ap (λ x. replyOf x .number) (c .enum-told .given .1))
+few c = few-passed (first-refusal (c .before .before)) (ap refusalIn (c .enum-told .given .1))
 
 or-too-many-requires : tie.Need-or-too-many-requires
 or-too-many-requires c κs = search needs
@@ -49,9 +49,17 @@ or-too-many-requires-6 c κs = search needs
 enum-told : tie.Need-enum-told
 enum-told c = search needs
 
+enum-told-2 : tie.Need-enum-told-2
+enum-told-2 c = search needs
+
+abbrev judged : tie.After-enum-told2 → tie.After-or-too-many6
+judged c = c .before .before
+
 returns : tie.Need-returns
 unfolding mapStepRefusal
-returns c = many-refused (first-refusal (c .before)) (broken (offered (c .before)) mapStepTables) (not-done (c .before .or-too-many6 .result) (c .match .keys2))
+returns c =
+    let later = broken (offered (judged c)) mapStepTables in
+    many-refused (first-refusal (judged c)) later (stands (judged c .or-too-many6 .result) (c .before .match .keys2) later)
 
 or-wrong-total-requires : tie.Need-or-wrong-total-requires
 or-wrong-total-requires c κs = few c .1 .1 .0
@@ -83,7 +91,7 @@ returns-2 c =
     (broken-next Maps (c .before .before .before .before .or-broken .ensures)
     (broken-next Instructions (c .before .before .before .before .before .or-wrong-total .ensures)
     (broken-end o refl)))))))
-    ∙ ap (λ x. orDone (orElse (tooMany o mapStepTables) x)) (or-none (broken o mapStepTables))
+    ∙ ap (orElse (tooMany o mapStepTables)) (or-none (broken o mapStepTables))
 
 pub check-map-step-spec : {M : Type 1} → statement M
 check-map-step-spec =
@@ -96,6 +104,7 @@ check-map-step-spec =
     or-too-many-requires-5
     or-too-many-requires-6
     enum-told
+    enum-told-2
     returns
     or-wrong-total-requires
     or-broken-requires

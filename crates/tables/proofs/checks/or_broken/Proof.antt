@@ -5,10 +5,10 @@ use mathlib.Core.Option.{some}
 use Prim.Native.Nat.{_≤_}
 use native.Mathlib.Omega.{arith}
 use borrow.Author.Needs.{needs}
-use Rattle.rules.specs.Answers.{reply, replyOf}
-use Rattle.rules.specs.Rows.{firstBroken}
-use Rattle.tables.specs.Folds.{orBrokenRow}
-use Rattle.tables.proofs.Refusals.{broken-low, found-some, found-none}
+use Rattle.rules.specs.Answers.{reply, refusalIn}
+use Rattle.rules.specs.Rows.{firstBroken, orBroken}
+use Rattle.rows.proofs.Laws.{found-some, found-none}
+use Rattle.tables.proofs.Refusals.{broken-low}
 use Rattle.tables.proofs.checks.or_broken.Statement.{statement}
 use Rattle.tables.proofs.checks.or_broken.Tie as tie
 
@@ -36,19 +36,23 @@ returns : tie.Need-returns
 returns c =
     let a = c .before .before .before .before .args in
     let e = found-none (firstBroken (a .table) (a .t .now)) (sym (c .before .before .first-broken .ensures) ∙ c .enum-told .given .1) in
-    ap (λ o. orBrokenRow o (a .table) (replyOf (a .later))) (sym e)
+    ap (λ o. orBroken o (a .table) (refusalIn (a .later))) (sym e)
 
 table-number-requires : tie.Need-table-number-requires
 table-number-requires c κs = search needs
 
-cast-t7 : tie.Need-cast-t7
-cast-t7 c = record { fits = omega (arith, row-low c) }
+cast-refusal : tie.Need-cast-refusal
+cast-refusal c = record { fits = omega (arith, row-low c) }
+
+refusal-requires : tie.Need-refusal-requires
+refusal-requires c κs = search needs
 
 returns-2 : tie.Need-returns-2
 returns-2 c =
-    let a = c .before .before .before .before .before .before .args in
-    ap (λ n. reply 2 n (c .before .before .k .given .0 .0) 0) (c .table-number .ensures)
-    ∙ ap (λ o. orBrokenRow o (a .table) (replyOf (a .later))) (sym (row-found c))
+    let numbered = c .before in
+    let a = numbered .before .before .before .before .before .before .args in
+    ap some (c .refusal .ensures ∙ ap (λ n. reply 2 n (numbered .before .before .k .given .0 .0) 0) (numbered .table-number .ensures))
+    ∙ ap (λ o. orBroken o (a .table) (refusalIn (a .later))) (sym (row-found numbered))
 
 pub or-broken-spec : {M : Type 1} → statement M
 or-broken-spec =
@@ -59,5 +63,6 @@ or-broken-spec =
     enum-told
     returns
     table-number-requires
-    cast-t7
+    cast-refusal
+    refusal-requires
     returns-2)

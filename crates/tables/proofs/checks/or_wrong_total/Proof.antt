@@ -9,10 +9,10 @@ use borrow.Author.Tests.{eq-eqb, ne-eqb}
 use borrow.Author.Needs.{needs}
 use lib.ListN.{length}
 use Rattle.rules.specs.declared.Table.the-variants.{Functions}
-use Rattle.rules.specs.Answers.{reply, replyOf}
-use Rattle.rules.specs.Rows.{rowSize, total}
-use Rattle.tables.specs.Folds.{orBrokenRow}
-use Rattle.tables.proofs.Refusals.{few-whole, bytes-fit}
+use Rattle.rules.specs.Answers.{reply, refusalIn}
+use Rattle.rules.specs.Rows.{rowSize, total, orBroken}
+use Rattle.rules.proofs.Passed.{few-whole}
+use Rattle.tables.proofs.Refusals.{bytes-fit}
 use Rattle.tables.proofs.checks.or_wrong_total.Statement.{statement}
 use Rattle.tables.proofs.checks.or_wrong_total.Tie as tie
 
@@ -36,19 +36,23 @@ returns : tie.Need-returns
 returns c =
     let a = c .before .before .before .before .before .args in
     let e = eq-eqb (length (a .t .now)) (rowSize (a .table) * total (a .table) (a .functions .now)) (c .if1 .taken ∙ bytes-are (c .before)) in
-    ap (λ b. orBrokenRow (cond b none (some 0)) (a .table) (replyOf (a .later))) (sym e)
+    ap (λ b. orBroken (cond b none (some 0)) (a .table) (refusalIn (a .later))) (sym e)
 
 table-number-requires : tie.Need-table-number-requires
 table-number-requires c κs = search needs
 
+refusal-requires : tie.Need-refusal-requires
+refusal-requires c κs = search needs
+
 returns-2 : tie.Need-returns-2
 returns-2 c =
-    let a = c .before .before .before .before .before .before .args in
-    let e = ne-eqb (length (a .t .now)) (rowSize (a .table) * total (a .table) (a .functions .now)) (λ q. c .before .if1 .left (q ∙ sym (bytes-are (c .before .before)))) in
-    ap (λ n. reply 2 n 0 0) (c .table-number .ensures)
-    ∙ ap (λ b. orBrokenRow (cond b none (some 0)) (a .table) (replyOf (a .later))) (sym e)
+    let left = c .before .before in
+    let a = left .before .before .before .before .before .args in
+    let e = ne-eqb (length (a .t .now)) (rowSize (a .table) * total (a .table) (a .functions .now)) (λ q. left .if1 .left (q ∙ sym (bytes-are (left .before)))) in
+    ap some (c .refusal .ensures ∙ ap (λ n. reply 2 n 0 0) (c .before .table-number .ensures))
+    ∙ ap (λ b. orBroken (cond b none (some 0)) (a .table) (refusalIn (a .later))) (sym e)
 
 pub or-wrong-total-spec : {M : Type 1} → statement M
 or-wrong-total-spec =
     tie.close
-    (tie.spec row-size-requires total-requires mul-bytes returns table-number-requires returns-2)
+    (tie.spec row-size-requires total-requires mul-bytes returns table-number-requires refusal-requires returns-2)

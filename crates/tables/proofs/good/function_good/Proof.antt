@@ -39,28 +39,34 @@ function-section-requires-2 c κs = search needs
 function-address-requires-2 : tie.Need-function-address-requires-2
 function-address-requires-2 c κs = search needs
 
-below-requires : tie.Need-below-requires
-below-requires c κs = search needs
+is-before-requires : tie.Need-is-before-requires
+is-before-requires c κs = search needs
+
+-- the stations, from the last
+abbrev judged : tie.After-is-before → tie.After-is-section
+judged c = c .before .before .before .before .before .before .before .before
+
+abbrev slots : tie.After-is-before → tie.After-function-slots
+slots c = judged c .before .before .before .before
 
 returns : tie.Need-returns
 unfolding isGood
 returns c =
-    let s = c .before .before .before .before .before .before .before .before .before .before .function-section .ensures in
-    let n = c .before .before .before .before .before .before .before .before .before .function-slots .ensures in
-    let d = c .before .before .before .before .before .before .before .before .function-address .ensures in
-    let o = c .before .before .before .before .before .before .before .function-offset .ensures in
-    let l = c .before .before .before .before .before .before .previous .ensures in
-    let t = c .before .before .before .before .before .before .before .before .before .before .before .before .args .t .now in
-    let k = c .before .before .before .before .before .before .before .before .before .before .before .before .args .k in
-    seven (c .before .before .before .before .before .is-section .ensures ∙ ap isSection s)
+    let s = slots c .before .function-section .ensures in
+    let n = slots c .function-slots .ensures in
+    let d = judged c .before .before .before .function-address .ensures in
+    let o = judged c .before .before .function-offset .ensures in
+    let l = judged c .before .previous .ensures in
+    let a = slots c .before .before .before .args in
+    seven (judged c .is-section .ensures ∙ ap isSection s)
     (ap (leb 1) n)
     (ap (λ x. leb x mostFunctionSlots) n)
-    (c .before .before .before .before .is-address .ensures ∙ ap isAddress d)
-    (c .before .before .before .is-address2 .ensures ∙ ap isAddress o)
+    (c .before .before .before .before .before .is-address .ensures ∙ ap isAddress d)
+    (c .before .before .before .before .is-address2 .ensures ∙ ap isAddress o)
     (ap (λ x. eqb (x % 8) 0) o)
-    (pairs-rise (functionSection t) (functionAddress t) k (c .below .ensures)
-    (key-last (functionSection t) k l (c .before .before .function-section2 .ensures))
-    (key-last (functionAddress t) k l (c .before .function-address2 .ensures))
+    (pairs-rise (functionSection (a .t .now)) (functionAddress (a .t .now)) (a .k) (c .is-before .ensures)
+    (key-last (functionSection (a .t .now)) (a .k) l (c .before .before .function-section2 .ensures))
+    (key-last (functionAddress (a .t .now)) (a .k) l (c .before .function-address2 .ensures))
     s
     d)
 
@@ -78,5 +84,5 @@ function-good-spec =
     is-address-requires-2
     function-section-requires-2
     function-address-requires-2
-    below-requires
+    is-before-requires
     returns)

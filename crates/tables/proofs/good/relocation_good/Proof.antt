@@ -42,8 +42,8 @@ relocation-section-requires-2 c κs = search needs
 relocation-offset-requires-2 : tie.Need-relocation-offset-requires-2
 relocation-offset-requires-2 c κs = search needs
 
-below-requires : tie.Need-below-requires
-below-requires c κs = search needs
+is-before-requires : tie.Need-is-before-requires
+is-before-requires c κs = search needs
 
 returns : tie.Need-returns
 unfolding isGood
@@ -57,7 +57,7 @@ returns c =
     (ap (λ x. not (eqb x noneNumber)) (c .before .before .before .before .before .relocation-symbol .ensures))
     (c .before .before .before .before .is-address .ensures ∙ ap isAddress o)
     (c .before .before .before .all-zero .ensures)
-    (pairs-rise (relocationSection t) (relocationOffset t) k (c .below .ensures)
+    (pairs-rise (relocationSection t) (relocationOffset t) k (c .is-before .ensures)
     (key-last (relocationSection t) k l (c .before .before .relocation-section2 .ensures))
     (key-last (relocationOffset t) k l (c .before .relocation-offset2 .ensures))
     s
@@ -78,5 +78,5 @@ relocation-good-spec =
     all-zero-requires
     relocation-section-requires-2
     relocation-offset-requires-2
-    below-requires
+    is-before-requires
     returns)

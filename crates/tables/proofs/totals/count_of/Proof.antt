@@ -8,8 +8,8 @@ use Rattle.tables.proofs.totals.count_of.Tie as tie
 enum-told : tie.Need-enum-told
 enum-told c = search needs
 
-function-slots-requires : tie.Need-function-slots-requires
-function-slots-requires c κs = search needs
+slots-of-requires : tie.Need-slots-of-requires
+slots-of-requires c κs = search needs
 
 enum-told-2 : tie.Need-enum-told-2
 enum-told-2 c = search needs
@@ -40,7 +40,7 @@ count-of-spec =
     tie.close
     (tie.spec
     enum-told
-    function-slots-requires
+    slots-of-requires
     enum-told-2
     function-func-info-requires
     enum-told-3

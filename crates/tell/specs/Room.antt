@@ -1,0 +1,14 @@
+-- bark's own sizes, as its promises name them (src/room.rt has them for code).
+-- Assumes nothing.
+use Prim.Native.Nat.{ℕ}
+
+-- "own buffers within 64 KiB": what one of them, and all of them, may have at most
+abbrev pub ownMost : ℕ
+ownMost = 65536
+
+-- the buffer that holds the marked table 3, and the one for its marks
+abbrev pub functionsRoom : ℕ
+functionsRoom = 2048
+
+abbrev pub marksRoom : ℕ
+marksRoom = 512
