@@ -1,9 +1,9 @@
 // What a line says of the two walks.
 ghost use mathlib.Core.Path.{_≡_};
-ghost use Prim.Native.Nat.{_≤_};
-ghost use Rattle.paths.specs.Show.{sourceEnd, imageEnd, WordsOf};
+ghost use Rattle.paths.specs.Shown.{smallOf, nowhereAt, slotShown, sourceBy, imageBy, sourceShown, imageShown, WordsOf};
 use libc::STDOUT_FILENO;
 use rules::Found;
+use rules::limits::INSTRUCTION_SIZE;
 use source::SourceStand;
 use tell::lines::put_lines;
 use tell::room::LINE;
@@ -62,6 +62,12 @@ the link refuses^
 the map step refuses^
 ";
 
+// The greatest number that a line shows.
+const MOST_SHOWN: u32 = 0xFFFF_FFFF;
+
+// The slot of a walk that is nowhere.
+const NO_SLOT: usize = MOST_SHOWN as usize;
+
 // Where a walk is: the line for its numbers, the numbers, its row and slot, and the line for how it goes on.
 pub struct Place {
     pub words: usize,
@@ -74,17 +80,17 @@ pub struct Place {
 }
 
 pub fn small(n: usize) -> u32
-    ensures { λ r. ⌜ r ≤ n ⌝ }
+    ensures { λ r. ⌜ r ≡ smallOf n ⌝ }
 {
-    if n > 0xFFFF_FFFF {
-        return 0xFFFF_FFFF;
+    if n > MOST_SHOWN as usize {
+        return MOST_SHOWN;
     }
     n as u32
 }
 
 // A walk that is nowhere, and why.
 pub fn nowhere(end: usize) -> Place
-    ensures { λ r. ⌜ r .end ≡ end ⌝ }
+    ensures { λ r. ⌜ r ≡ nowhereAt end ⌝ }
 {
     Place {
         words: STANDS,
@@ -92,15 +98,15 @@ pub fn nowhere(end: usize) -> Place
         b: 0,
         c: 0,
         row: 0,
-        slot: 0xFFFF_FFFF,
+        slot: NO_SLOT,
         end,
     }
 }
 
 fn in_source(row: usize, at: i64, depth: usize, end: usize) -> Place
-    ensures { λ r. ⌜ r .end ≡ end ⌝ }
+    ensures { λ r. ⌜ r ≡ sourceBy (slotShown at) row depth end ⌝ }
 {
-    let Found::At(slot) = slot_in(at, 0xFFFF_FFFF) else {
+    let Found::At(slot) = slot_in(at, MOST_SHOWN) else {
         return nowhere(end);
     };
     Place {
@@ -115,9 +121,9 @@ fn in_source(row: usize, at: i64, depth: usize, end: usize) -> Place
 }
 
 fn in_image(at: i64, depth: usize, end: usize) -> Place
-    ensures { λ r. ⌜ r .end ≡ end ⌝ }
+    ensures { λ r. ⌜ r ≡ imageBy (slotShown at) depth end ⌝ }
 {
-    let Found::At(slot) = slot_in(at, 0xFFFF_FFFF) else {
+    let Found::At(slot) = slot_in(at, MOST_SHOWN) else {
         return nowhere(end);
     };
     Place {
@@ -132,7 +138,7 @@ fn in_image(at: i64, depth: usize, end: usize) -> Place
 }
 
 pub fn source_place(stand: SourceStand) -> Place
-    ensures { λ r. ⌜ r .end ≡ sourceEnd stand ⌝ }
+    ensures { λ r. ⌜ r ≡ sourceShown stand ⌝ }
 {
     match stand {
         SourceStand::Standing(row, at, depth, _) => in_source(row, at, depth, STANDS),
@@ -144,7 +150,7 @@ pub fn source_place(stand: SourceStand) -> Place
 }
 
 pub fn image_place(stand: Stand) -> Place
-    ensures { λ r. ⌜ r .end ≡ imageEnd stand ⌝ }
+    ensures { λ r. ⌜ r ≡ imageShown stand ⌝ }
 {
     match stand {
         Stand::Standing(at, depth, _) => in_image(at, depth, STANDS),
@@ -166,7 +172,7 @@ pub struct Words {
 pub fn words_of(code: &[u8], first: usize, slot: usize) -> Words
     ensures { λ r. ⌜ WordsOf (now (code .entry)) first slot (r .line) (r .low) (r .high) ⌝ }
 {
-    let n = code.len() / 8;
+    let n = code.len() / INSTRUCTION_SIZE;
     if first >= n {
         return Words {
             line: STANDS,
@@ -181,7 +187,7 @@ pub fn words_of(code: &[u8], first: usize, slot: usize) -> Words
             high: 0,
         };
     }
-    let at = 8 * (first + slot);
+    let at = INSTRUCTION_SIZE * (first + slot);
     Words {
         line: BYTES,
         low: u32_at(code, at),

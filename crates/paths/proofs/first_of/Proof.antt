@@ -1,12 +1,14 @@
--- The invariant: at most 64 rows, of less than 2^32 slots each. Assumes nothing.
+-- The invariant: at most as many rows as table 3 may have, of less than 2^32 slots each. Assumes nothing.
 use Prim.Native.Nat.{_*_, _-_, _≤_}
 use native.Mathlib.Omega.{arith}
 use borrow.Author.Needs.{needs}
+use Rattle.rules.specs.declared.Table.the-variants.{Functions}
+use Rattle.rules.specs.Rows.{mostRows}
 use Rattle.paths.proofs.first_of.Statement.{statement}
 use Rattle.paths.proofs.first_of.Tie as tie
 
 abbrev Inv-loop : tie.InvT-loop
-Inv-loop functions row first₀ k₀ first k = (k ≤ 64) × (first ≤ 0xFFFF_FFFF * k)
+Inv-loop functions row first₀ k₀ first k = (k ≤ mostRows Functions) × (first ≤ 0xFFFF_FFFF * k)
 
 abbrev μ-loop : tie.MeasureT-loop
 μ-loop functions row first₀ k₀ first k = row - k

@@ -7,7 +7,7 @@ use native.Mathlib.Omega.{arith}
 use borrow.Author.Tests.{lt-ltb, le-ltb}
 use lib.ListN.{length}
 use Rattle.rules.specs.Bytes.{little, u32At}
-use Rattle.paths.specs.Show.{shownWords, WordsOf}
+use Rattle.paths.specs.Shown.{shownWords, WordsOf}
 use borrow.Author.Needs.{needs}
 use Rattle.paths.proofs.show.words_of.Statement.{statement}
 use Rattle.paths.proofs.show.words_of.Tie as tie
