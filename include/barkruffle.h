@@ -16,7 +16,7 @@
  * It is written on every answer. What the numbers say stands with each answer below.
  *
  * Stack. A link recurses once for each function that it appends, 64 at most. The deepest, a chain of 64 functions
- * that ends in a call of the root, was measured at 103,896 bytes, with rows at 103,960; give a thread that links 128 KiB
+ * that ends in a call of the root, was measured at 103,928 bytes, with rows at 103,992; give a thread that links 128 KiB
  * beside its own. No other function here recurses. tests/stack.c measures it, and fails past 128 KiB.
  *
  * The tables, by number, with the bytes of a row and the most rows:
