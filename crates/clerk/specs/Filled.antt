@@ -1,9 +1,10 @@
 -- What is taken of a file. Which bytes come, and whether as many come as are asked for, only the system says.
 -- Assumes nothing.
 use mathlib.Core.Path.{_≡_}
-use mathlib.Core.List.{List}
+use mathlib.Core.Bool.{Bool, true, false}
+use mathlib.Core.List.{List, [], _∷_}
 use Prim.Native.Nat.{ℕ, _+_, _<_, _≤_}
-use lib.ListN.{length, take, drop}
+use lib.ListN.{length, getD, take, drop}
 use Rattle.clerk.specs.declared.reading.Got.{Got}
 use Rattle.clerk.specs.declared.reading.Got.the-variants.{All, Less, NoRoom}
 use Rattle.clerk.specs.declared.reading.Got.the-variants.{Failed as Got·Failed}
@@ -17,6 +18,11 @@ pub record Filled (at n : ℕ) (before after : List ℕ) (r : Got) : Type 0 wher
   pub front : take at after ≡ take at before
   pub rest : drop (at + n) after ≡ drop (at + n) before
   pub sized : length after ≡ length before
+
+-- the bytes that table i + 1 may have: what bark has room for (tell, src/room.rt), or what a length can say
+abbrev pub mostOf : Bool → ℕ → ℕ
+mostOf true i = getD (256 ∷ 6144 ∷ 2048 ∷ 6144 ∷ 1024 ∷ 12288 ∷ 2048 ∷ 8192 ∷ []) i 0
+mostOf false i = 0xFFFF_FFFF
 
 -- what that says of a table
 abbrev pub readOf : Got → ℕ → ℕ → ℕ → Read

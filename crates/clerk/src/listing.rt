@@ -6,7 +6,7 @@ ghost use lib.ListN.{length};
 ghost use Rattle.clerk.specs.Status.{either};
 ghost use Rattle.tell.specs.Room.{ownMost};
 use crate::status::DONE;
-use crate::status::NO_OUTPUT;
+use crate::telling::ended;
 use crate::telling::say;
 use libc::STDOUT_FILENO;
 use tell::listing::row;
@@ -30,9 +30,5 @@ pub fn list(own: usize, pieces: &[u8], image: &[u8], lines: &[u8]) -> u32
     requires { ⌜ length (now image) ≤ ownMost ⌝ }
     ensures { λ r. ⌜ (r ≤ 4) × (either 0 4 r ≡ true) ⌝ }
 {
-    if rows(own, pieces, image, lines) {
-        return DONE;
-    }
-    os::fail(b"standard output");
-    NO_OUTPUT
+    ended(rows(own, pieces, image, lines), DONE)
 }

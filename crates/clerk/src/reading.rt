@@ -2,11 +2,12 @@
 ghost use mathlib.Core.Path.{_≡_};
 ghost use Prim.Native.Nat.{_≤_, _<_};
 ghost use lib.ListN.{length};
-ghost use Rattle.clerk.specs.Filled.{Filled, readOf};
+ghost use Rattle.clerk.specs.Filled.{Filled, mostOf, readOf};
 use tell::files::INSTRUCTIONS;
 use tell::files::TABLES;
 use tell::files::length_of;
 use tell::files::start_of;
+use tell::room::ROOM;
 use tell::room::TABLE_LENGTHS;
 
 pub enum Got {
@@ -73,34 +74,68 @@ fn read_of(got: Got, table: u32, needs: u32, holds: u32) -> Read
     }
 }
 
+// The bytes that table i + 1 may have: what bark has room for, or any number.
+fn most_of(bounded: bool, i: usize) -> u32
+    requires { ⌜ i < 8 ⌝ }
+    ensures { λ r. ⌜ r ≡ mostOf bounded i ⌝ }
+{
+    if bounded {
+        let room = ROOM;
+        return room[i];
+    }
+    u32::MAX
+}
+
 // Table i + 1, of at most so many bytes.
-fn read_table(fd: i32, most: u32, file: &mut [u8], instructions: &mut [u8], i: usize) -> Read
-    requires { ⌜ (i < 8) × (32 ≤ length (now file)) ⌝ }
+fn read_table(
+    fd: i32,
+    most: u32,
+    lengths: &[u8],
+    file: &mut [u8],
+    instructions: &mut [u8],
+    i: usize,
+) -> Read
+    requires { ⌜ (i < 8) × (32 ≤ length (now lengths)) ⌝ }
     ensures { λ r. ⌜ (length (now (file .exit)) ≡ length (now (file .entry)))
         × (length (now (instructions .exit)) ≡ length (now (instructions .entry))) ⌝ }
 {
-    let needs = length_of(file, i);
+    let needs = length_of(lengths, i);
     let table = i as u32 + 1;
     if needs > most {
         return read_of(Got::NoRoom, table, needs, most);
     }
     if i == INSTRUCTIONS {
-        let got = fill(fd, instructions, 0, needs as usize);
-        return read_of(got, table, needs, most);
+        return read_of(
+            fill(fd, instructions, 0, needs as usize),
+            table,
+            needs,
+            most,
+        );
     }
-    let got = fill(fd, file, start_of(file, i), needs as usize);
-    read_of(got, table, needs, most)
+    read_of(
+        fill(fd, file, start_of(lengths, i), needs as usize),
+        table,
+        needs,
+        most,
+    )
 }
 
-// The tables, after the lengths. `room` is what each may need.
-pub fn read_after(fd: i32, room: &[u32; 8], file: &mut [u8], instructions: &mut [u8]) -> Read
-    requires { ⌜ 32 ≤ length (now file) ⌝ }
+// The tables that stand after the lengths, which are held with them. Each has at most what bark has room for, where that is asked.
+pub fn read_after(
+    fd: i32,
+    bounded: bool,
+    lengths: &[u8],
+    file: &mut [u8],
+    instructions: &mut [u8],
+) -> Read
+    requires { ⌜ (32 ≤ length (now lengths)) × (32 ≤ length (now file)) ⌝ }
     ensures { λ r. ⌜ (length (now (file .exit)) ≡ length (now (file .entry)))
         × (length (now (instructions .exit)) ≡ length (now (instructions .entry))) ⌝ }
 {
+    wire::copy(file, 0, lengths, 0, TABLE_LENGTHS);
     let mut i = 0;
     while i < TABLES {
-        let read = read_table(fd, room[i], file, instructions, i);
+        let read = read_table(fd, most_of(bounded, i), lengths, file, instructions, i);
         let Read::Whole = read else {
             return read;
         };
@@ -110,17 +145,18 @@ pub fn read_after(fd: i32, room: &[u32; 8], file: &mut [u8], instructions: &mut 
 }
 
 // A whole file.
-pub fn read_tables(fd: i32, room: &[u32; 8], file: &mut [u8], instructions: &mut [u8]) -> Read
+pub fn read_tables(fd: i32, bounded: bool, file: &mut [u8], instructions: &mut [u8]) -> Read
     ensures { λ r. ⌜ (length (now (file .exit)) ≡ length (now (file .entry)))
         × (length (now (instructions .exit)) ≡ length (now (instructions .entry))) ⌝ }
 {
     if file.len() < TABLE_LENGTHS {
         return Read::NoLengths;
     }
-    let got = fill(fd, file, 0, TABLE_LENGTHS);
+    let mut lengths = [0u8; TABLE_LENGTHS];
+    let got = read_all(fd, &mut lengths);
     match got {
         Got::All => {
-            return read_after(fd, room, file, instructions);
+            return read_after(fd, bounded, &lengths, file, instructions);
         }
         Got::Failed => {
             return Read::Failed;

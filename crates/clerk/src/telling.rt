@@ -10,8 +10,7 @@ use crate::status::NO_TABLES;
 use crate::status::REFUSED;
 use libc::STDERR_FILENO;
 use libc::STDOUT_FILENO;
-use tell::lines::put_lines;
-use tell::room::LINE;
+use tell::lines::spoken_line;
 use tell::text::CANNOT_READ;
 use tell::text::END;
 use tell::text::ENDS_WITHIN;
@@ -26,7 +25,7 @@ use tell::words::answer;
 use tell::words::of_table;
 
 // Standard output took the words, or it is said that it did not.
-fn ended(written: bool, status: u32) -> u32
+pub(crate) fn ended(written: bool, status: u32) -> u32
     requires { ⌜ status ≤ 4 ⌝ }
     ensures { λ r. ⌜ (r ≤ 4) × (either status 4 r ≡ true) ⌝ }
 {
@@ -51,9 +50,10 @@ pub(crate) fn say(fd: i32, sentence: Sentence) -> bool {
     let text = TEXT;
     let lines = sentence.lines;
     let numbers = sentence.numbers;
-    let mut line = [0u8; LINE];
-    let n = put_lines(&mut line, &text, &lines, &numbers);
-    io::write_all(fd, &line[..n])
+    let words = spoken_line(&text, &lines, &numbers);
+    let bytes = words.bytes;
+    let n = words.used;
+    io::write_all(fd, &bytes[..n])
 }
 
 // What a step answered: `head` and `done` are the text's lines that its words begin with, and that a done one is told with.

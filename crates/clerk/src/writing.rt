@@ -8,8 +8,7 @@ ghost use Rattle.tell.specs.Room.{ownMost};
 use crate::status::DONE;
 use crate::status::NO_OUTPUT;
 use crate::telling::failed;
-use tell::files::put_lengths;
-use tell::room::IMAGE_LENGTHS;
+use tell::files::image_lengths;
 use tell::room::PATH;
 use tell::text::CANNOT_CLOSE;
 use tell::text::CANNOT_CREATE;
@@ -19,12 +18,17 @@ use tell::text::NO_IMAGE_NAME;
 fn put(fd: i32, image: &[u8], func_info: &[u8], line_info: &[u8]) -> bool
     requires { ⌜ (length (now image) ≤ ownMost) × ((length (now «func_info») ≤ ownMost) × (length (now «line_info») ≤ ownMost)) ⌝ }
 {
-    let mut lengths = [0u8; IMAGE_LENGTHS];
-    put_lengths(&mut lengths, image, func_info, line_info);
-    io::write_all(fd, &lengths)
-        && io::write_all(fd, image)
-        && io::write_all(fd, func_info)
-        && io::write_all(fd, line_info)
+    let lengths = image_lengths(image, func_info, line_info);
+    if !io::write_all(fd, &lengths) {
+        return false;
+    }
+    if !io::write_all(fd, image) {
+        return false;
+    }
+    if !io::write_all(fd, func_info) {
+        return false;
+    }
+    io::write_all(fd, line_info)
 }
 
 // 0, or the text's line for what the system did not do. The close that follows a failed write is the process's end.

@@ -2,13 +2,16 @@
 // and, with an independent model, the paths (stdout), and says how both are laid out.
 mod show;
 
-ghost use Prim.Native.Nat.{_≤_, _<_};
+ghost use mathlib.Core.Path.{_≡_};
+ghost use Prim.Native.Nat.{_≤_};
 ghost use lib.ListN.{length};
-ghost use Rattle.io.specs.Counts.{Counts};
+ghost use Rattle.rules.specs.Bytes.{little, u32At};
+ghost use Rattle.tell.specs.Room.{fileRoom, instructionsRoom};
 use clerk::reading::Got;
 use clerk::reading::Read;
 use clerk::reading::fill;
 use clerk::reading::read_tables;
+use clerk::steps;
 use libc::STDIN_FILENO;
 use libc::STDOUT_FILENO;
 use rules::Answer;
@@ -28,7 +31,6 @@ use tell::files::length_of;
 use tell::files::table;
 use tell::room::FILE;
 use tell::room::INSTRUCTIONS;
-use tell::room::ROOM;
 use walk::ImageRun;
 use walk::walk_image;
 
@@ -167,58 +169,97 @@ fn mapped(file: &[u8], instructions: &mut [u8], answers: &[u8], root: u32, limit
     linked(file, instructions, answers, root, limit);
 }
 
-fn is_all(got: Got) -> bool {
-    if let Got::All = got { true } else { false }
+// A header by value, and how many of its bytes the input had.
+struct Header {
+    bytes: [u8; HEADER],
+    got: usize,
 }
 
-fn is_whole(read: Read) -> bool {
+fn read_header() -> Header
+    ensures { λ r. ⌜ r .got ≤ 16 ⌝ }
+{
+    let mut bytes = [0u8; HEADER];
+    let got = io::read_full(STDIN_FILENO, &mut bytes);
+    Header { bytes, got }
+}
+
+fn word(header: [u8; HEADER], at: usize) -> u32
+    requires { ⌜ at ≤ 12 ⌝ }
+    ensures { λ r. ⌜ r ≡ u32At little header at ⌝ }
+{
+    wire::u32_at(&header, at)
+}
+
+// An object's name and its answers, by value.
+struct Names {
+    bytes: [u8; WORDS],
+    all: bool,
+}
+
+fn read_names(n: usize) -> Names {
+    let mut bytes = [0u8; WORDS];
+    let got = fill(STDIN_FILENO, &mut bytes, 0, n);
+    let Got::All = got else {
+        return Names { bytes, all: false };
+    };
+    Names { bytes, all: true }
+}
+
+// Whether the tables were had whole.
+fn read_object(file: &mut [u8; FILE], instructions: &mut [u8; INSTRUCTIONS]) -> bool
+    ensures { λ r. ⌜ (length (now (file .exit)) ≡ fileRoom) × (length (now (instructions .exit)) ≡ instructionsRoom) ⌝ }
+{
+    let read = read_tables(STDIN_FILENO, true, file, instructions);
     if let Read::Whole = read { true } else { false }
 }
 
-// An object that was read. `names` has its name and its answers.
-fn object(header: &[u8; HEADER], names: &[u8], file: &[u8], instructions: &mut [u8])
-    requires { ⌜ 32 ≤ length (now file) ⌝ }
-{
-    let root = wire::u32_at(header, ROOT);
-    let limit = wire::u32_at(header, LIMIT) as usize;
-    let m = io::count(wire::u32_at(header, 0) as isize, names);
+// The rest of an object. `names` has its name and its answers.
+fn object(header: [u8; HEADER], names: &[u8]) -> bool {
+    let mut file = [0u8; FILE];
+    let mut instructions = [0u8; INSTRUCTIONS];
+    if !read_object(&mut file, &mut instructions) {
+        return false;
+    }
+    let m = io::count(word(header, 0) as isize, names);
     io::write_all(STDOUT_FILENO, &names[..m]);
     say(show::END);
-    let k = io::count(length_of(file, files::INSTRUCTIONS) as isize, instructions);
-    mapped(file, &mut instructions[..k], &names[m..], root, limit);
+    let k = io::count(
+        length_of(&file, files::INSTRUCTIONS) as isize,
+        &instructions,
+    );
+    mapped(
+        &file,
+        &mut instructions[..k],
+        &names[m..],
+        word(header, ROOT),
+        word(header, LIMIT) as usize,
+    );
     say(show::END);
+    true
 }
 
 // False where the input has ended, or an object is cut short or does not fit.
-fn one_object(
-    names: &mut [u8],
-    file: &mut [u8; FILE],
-    instructions: &mut [u8; INSTRUCTIONS],
-) -> bool {
-    let room = ROOM;
-    let mut header = [0u8; HEADER];
-    if io::read_full(STDIN_FILENO, &mut header) < HEADER {
+fn one_object() -> bool {
+    let read = read_header();
+    let got = read.got;
+    let header = read.bytes;
+    if got < HEADER {
         return false;
     }
-    let both = wire::u32_at(&header, 0) as usize + wire::u32_at(&header, ANSWERS) as usize;
-    if !is_all(fill(STDIN_FILENO, names, 0, both)) {
+    let both = word(header, 0) as usize + word(header, ANSWERS) as usize;
+    let named = read_names(both);
+    let names = named.bytes;
+    if !named.all {
         return false;
     }
-    if !is_whole(read_tables(STDIN_FILENO, &room, file, instructions)) {
-        return false;
-    }
-    let k = io::count(both as isize, names);
-    object(&header, &names[..k], file, instructions);
-    true
+    let k = io::count(both as isize, &names);
+    object(header, &names[..k])
 }
 
 // A proved loop has to end, and nothing says that the input does. So the objects are counted, up to a number that no run reaches.
 fn main() {
-    let mut names = [0u8; WORDS];
-    let mut file = [0u8; FILE];
-    let mut instructions = [0u8; INSTRUCTIONS];
     let mut index: u64 = 0;
-    while index < u64::MAX && one_object(&mut names, &mut file, &mut instructions) {
+    while index < u64::MAX && one_object() {
         index += 1;
     }
 }

@@ -5,8 +5,7 @@ use libc::STDOUT_FILENO;
 use rules::Found;
 use rules::limits::INSTRUCTION_SIZE;
 use source::SourceStand;
-use tell::lines::put_lines;
-use tell::room::LINE;
+use tell::lines::spoken_line;
 use walk::Stand;
 use walk::slot_in;
 use wire::u32_at;
@@ -197,9 +196,10 @@ pub fn words_of(code: &[u8], first: usize, slot: usize) -> Words
 
 fn write(lines: [usize; 9], numbers: [u32; 27]) {
     let text = TEXT;
-    let mut line = [0u8; LINE];
-    let n = put_lines(&mut line, &text, &lines, &numbers);
-    io::write_all(STDOUT_FILENO, &line[..n]);
+    let words = spoken_line(&text, &lines, &numbers);
+    let bytes = words.bytes;
+    let n = words.used;
+    io::write_all(STDOUT_FILENO, &bytes[..n]);
 }
 
 // Both walks in one line.

@@ -5,6 +5,8 @@ use mathlib.Core.List.{List, []}
 use Prim.Native.Nat.{ℕ, _+_, _*_}
 use lib.Dec.{leb}
 use lib.ListN.{length, take, drop}
+use Rattle.rules.specs.declared.Table.{Table}
+use Rattle.rules.specs.declared.Table.the-variants.{FuncInfo, LineInfo}
 use Rattle.rules.specs.Bytes.{little, u32At}
 use Rattle.tell.specs.Files.{startOf}
 
@@ -19,3 +21,8 @@ pickData false a = []
 -- the n bytes after the tables of a held file, none where it has fewer
 unfoldable pub dataIn : List ℕ → ℕ → List ℕ
 dataIn file n = pickData (leb (startOf file 8 + n) (length file)) (take n (drop (startOf file 8) file))
+
+-- of which of the two the readers of a case are
+abbrev pub infoOf : Bool → Table
+infoOf true = FuncInfo
+infoOf false = LineInfo

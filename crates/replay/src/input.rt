@@ -2,7 +2,6 @@
 ghost use mathlib.Core.Path.{_≡_};
 ghost use Prim.Native.Nat.{_≤_, _<_, min};
 ghost use lib.ListN.{length};
-ghost use Rattle.io.specs.Counts.{Counts};
 ghost use Rattle.replay.specs.Input.{wordAt, dataIn};
 use clerk::reading::Got;
 use clerk::reading::Read;
@@ -11,7 +10,6 @@ use clerk::reading::read_after;
 use libc::STDIN_FILENO;
 use tell::files::TABLES;
 use tell::files::start_of;
-use tell::room::TABLE_LENGTHS;
 
 // A case's header: 24 words. The tables' lengths stand from this byte on.
 pub const HEADER: usize = 96;
@@ -39,21 +37,42 @@ pub const OUT_LINE_INFO: usize = 16;
 
 pub const PLACES: usize = 17;
 
-pub fn word(header: &[u8; HEADER], i: usize) -> u32
-    requires { ⌜ i < 24 ⌝ }
-    ensures { λ r. ⌜ r ≡ wordAt (now (header .entry)) i ⌝ }
-{
-    wire::u32_at(header, 4 * i)
+// The room for a held tables file with a reader's data, and for table 6.
+pub const FILE: usize = 120_354;
+
+pub const TABLE_6: usize = 65_600;
+
+// A header by value, and how many of its bytes the input had.
+pub struct Header {
+    pub bytes: [u8; HEADER],
+    pub got: usize,
 }
 
-// The number that a header has at `i`, or the length of `buf` where that is less: a number of its bytes.
-pub fn part(header: &[u8; HEADER], i: usize, buf: &[u8]) -> usize
+pub fn read_header() -> Header
+    ensures { λ r. ⌜ r .got ≤ 96 ⌝ }
+{
+    let mut bytes = [0u8; HEADER];
+    let got = io::read_full(STDIN_FILENO, &mut bytes);
+    Header { bytes, got }
+}
+
+pub fn word(header: [u8; HEADER], i: usize) -> u32
     requires { ⌜ i < 24 ⌝ }
-    ensures { λ r. ⌜ Counts r (now (buf .entry)) ⌝ }
-    ensures { λ r. ⌜ r ≡ min (wordAt (now (header .entry)) i) (length (now (buf .entry))) ⌝ }
+    ensures { λ r. ⌜ r ≡ wordAt header i ⌝ }
+{
+    wire::u32_at(&header, 4 * i)
+}
+
+// The number that a header has at `i`, or `most` where that is less: so many bytes of a buffer of `most`.
+pub fn part(header: [u8; HEADER], i: usize, most: usize) -> usize
+    requires { ⌜ i < 24 ⌝ }
+    ensures { λ r. ⌜ (r ≡ min (wordAt header i) most) × (r ≤ most) ⌝ }
 {
     let n = word(header, i) as usize;
-    if n < buf.len() { n } else { buf.len() }
+    if n < most {
+        return n;
+    }
+    most
 }
 
 // The n bytes that stand after the tables of a held file, none where it has fewer.
@@ -73,18 +92,19 @@ pub fn data(file: &[u8], n: usize) -> &[u8]
 }
 
 // A case after its header: the tables, and after them the reader's data. False where it does not fit, or the input ends before.
-pub fn read_case(header: &[u8; HEADER], file: &mut [u8], instructions: &mut [u8]) -> bool
-    requires { ⌜ 32 ≤ length (now file) ⌝ }
-    ensures { λ r. ⌜ (length (now (file .exit)) ≡ length (now (file .entry)))
-        × (length (now (instructions .exit)) ≡ length (now (instructions .entry))) ⌝ }
+pub fn read_case(
+    header: [u8; HEADER],
+    file: &mut [u8; FILE],
+    instructions: &mut [u8; TABLE_6],
+) -> bool
+    ensures { λ r. ⌜ (length (now (file .exit)) ≡ 120354) × (length (now (instructions .exit)) ≡ 65600) ⌝ }
 {
-    let room = [u32::MAX; TABLES];
-    wire::copy(file, 0, header, LENGTHS, TABLE_LENGTHS);
-    let read = read_after(STDIN_FILENO, &room, file, instructions);
+    let lengths = &header[LENGTHS..];
+    let read = read_after(STDIN_FILENO, false, lengths, file, instructions);
     let Read::Whole = read else {
         return false;
     };
-    let start = start_of(file, TABLES);
+    let start = start_of(lengths, TABLES);
     let got = fill(STDIN_FILENO, file, start, word(header, DATA) as usize);
     if let Got::All = got { true } else { false }
 }

@@ -1,13 +1,15 @@
 // Each kind of case, on exactly the bytes that it lends.
+ghost use mathlib.Core.Path.{_≡_};
+ghost use lib.Dec.{eqb};
 ghost use lib.ListN.{length};
-ghost use Rattle.rules.specs.declared.Table.the-variants.{FuncInfo, LineInfo};
 ghost use Rattle.rules.specs.Bytes.{little};
 ghost use Rattle.rules.specs.Entries.{linkEntry, mapEntry};
-ghost use Rattle.rules.specs.Readers.{readRecords, recordReply};
+ghost use Rattle.rules.specs.Readers.{readRecords, recordReply, recordPart};
 ghost use Rattle.info.specs.Promises.{given};
 ghost use Rattle.rules.specs.Lent.{was, outputs, lentOutputs, lentBy};
 ghost use Rattle.answers.specs.Told.{Told};
-ghost use Rattle.steps.specs.Steps.{heldOffer, heldMaps};
+ghost use Rattle.clerk.specs.Steps.{heldOffer, heldMaps};
+ghost use Rattle.replay.specs.Input.{infoOf};
 ghost use Rattle.barkruffle.specs.Promises.{LinkTold, MapTold, ReadTold};
 use crate::show;
 use barkruffle::barkruffle_func_info;
@@ -57,11 +59,14 @@ pub fn link(
         image_line_info,
         places,
     );
-    show::answer(index, 1, number, places);
-    show::sum(image);
-    show::sum(image_func_info);
-    show::sum(image_line_info);
-    show::end();
+    show::link(
+        index,
+        number,
+        places,
+        image,
+        image_func_info,
+        image_line_info,
+    );
     number
 }
 
@@ -83,14 +88,12 @@ pub fn map_step(index: u64, file: &[u8], instructions: &mut [u8], places: &mut [
         instructions,
         places,
     );
-    show::answer(index, 2, number, places);
-    show::sum(instructions);
-    show::end();
+    show::bytes(index, 2, number, places, instructions);
     number
 }
 
-pub fn func_info(
-    index: u64,
+fn read_records(
+    func: bool,
     size: u32,
     count: u32,
     bytes: &[u8],
@@ -102,18 +105,19 @@ pub fn func_info(
         (now (places .exit))
         (now (out .exit))
         r
-        (readRecords little FuncInfo (given size count (was bytes)) (length (was out)))
+        (readRecords little (infoOf func) (given size count (was bytes)) (length (was out)))
         ⌝ }
 {
-    let number = barkruffle_func_info(size, count, bytes, out, places);
-    show::answer(index, 3, number, places);
-    show::sum(out);
-    show::end();
-    number
+    if func {
+        return barkruffle_func_info(size, count, bytes, out, places);
+    }
+    barkruffle_line_info(size, count, bytes, out, places)
 }
 
-pub fn line_info(
+// All records: kind 3, of struct bpf_func_info, or kind 4, of struct bpf_line_info.
+pub fn records(
     index: u64,
+    kind: u32,
     size: u32,
     count: u32,
     bytes: &[u8],
@@ -125,18 +129,38 @@ pub fn line_info(
         (now (places .exit))
         (now (out .exit))
         r
-        (readRecords little LineInfo (given size count (was bytes)) (length (was out)))
+        (readRecords little (infoOf (eqb kind 3)) (given size count (was bytes)) (length (was out)))
         ⌝ }
 {
-    let number = barkruffle_line_info(size, count, bytes, out, places);
-    show::answer(index, 4, number, places);
-    show::sum(out);
-    show::end();
+    let number = read_records(kind == 3, size, count, bytes, out, places);
+    show::bytes(index, kind, number, places, out);
     number
 }
 
-pub fn func_record(
+fn record_number(func: bool, size: u32, count: u32, bytes: &[u8], k: u32, places: &mut [u8]) -> u32
+    ensures { λ r. ⌜
+        Told (was places) (now (places .exit)) r (recordReply little (infoOf func) (given size count (was bytes)) k)
+        ⌝ }
+{
+    if func {
+        return barkruffle_func_info_record_number(size, count, bytes, k, places);
+    }
+    barkruffle_line_info_record_number(size, count, bytes, k, places)
+}
+
+fn record_bytes(func: bool, size: u32, count: u32, bytes: &[u8], k: u32) -> &[u8]
+    ensures { λ r. ⌜ now r ≡ recordPart little (infoOf func) (given size count (was bytes)) k ⌝ }
+{
+    if func {
+        return func_info_record(size, count, bytes, k);
+    }
+    line_info_record(size, count, bytes, k)
+}
+
+// Record k, its number and its bytes: kind 5, of struct bpf_func_info, or kind 6, of struct bpf_line_info.
+pub fn record(
     index: u64,
+    kind: u32,
     size: u32,
     count: u32,
     bytes: &[u8],
@@ -144,31 +168,16 @@ pub fn func_record(
     places: &mut [u8],
 ) -> u32
     ensures { λ r. ⌜
-        Told (was places) (now (places .exit)) r (recordReply little FuncInfo (given size count (was bytes)) k)
+        Told (was places) (now (places .exit)) r (recordReply little (infoOf (eqb kind 5)) (given size count (was bytes)) k)
         ⌝ }
 {
-    let number = barkruffle_func_info_record_number(size, count, bytes, k, places);
-    show::answer(index, 5, number, places);
-    show::part(func_info_record(size, count, bytes, k));
-    show::end();
-    number
-}
-
-pub fn line_record(
-    index: u64,
-    size: u32,
-    count: u32,
-    bytes: &[u8],
-    k: u32,
-    places: &mut [u8],
-) -> u32
-    ensures { λ r. ⌜
-        Told (was places) (now (places .exit)) r (recordReply little LineInfo (given size count (was bytes)) k)
-        ⌝ }
-{
-    let number = barkruffle_line_info_record_number(size, count, bytes, k, places);
-    show::answer(index, 6, number, places);
-    show::part(line_info_record(size, count, bytes, k));
-    show::end();
+    let number = record_number(kind == 5, size, count, bytes, k, places);
+    show::record(
+        index,
+        kind,
+        number,
+        places,
+        record_bytes(kind == 5, size, count, bytes, k),
+    );
     number
 }

@@ -27,30 +27,45 @@ fn hex(s: &[u8]) {
     }
 }
 
+fn field(n: u64) {
+    io::write_all(STDOUT_FILENO, b" ");
+    io::print_decimal(STDOUT_FILENO, n);
+}
+
 // `INDEX KIND NUMBER | places |`
-pub fn answer(index: u64, kind: u32, number: u32, places: &[u8]) {
+fn answer(index: u64, kind: u32, number: u32, places: &[u8]) {
     io::print_decimal(STDOUT_FILENO, index);
-    io::write_all(STDOUT_FILENO, b" ");
-    io::print_decimal(STDOUT_FILENO, kind as u64);
-    io::write_all(STDOUT_FILENO, b" ");
-    io::print_decimal(STDOUT_FILENO, number as u64);
+    field(kind as u64);
+    field(number as u64);
     io::write_all(STDOUT_FILENO, b" | ");
     hex(places);
     io::write_all(STDOUT_FILENO, b" |");
 }
 
-pub fn sum(s: &[u8]) {
-    io::write_all(STDOUT_FILENO, b" ");
-    io::print_decimal(STDOUT_FILENO, checksum(s));
-}
-
-// A checksum and the length.
-pub fn part(s: &[u8]) {
-    sum(s);
-    io::write_all(STDOUT_FILENO, b" ");
-    io::print_decimal(STDOUT_FILENO, s.len() as u64);
-}
-
-pub fn end() {
+fn end() {
     io::write_all(STDOUT_FILENO, b"\n");
+}
+
+// A link, with the checksums of its three outputs.
+pub fn link(index: u64, number: u32, places: &[u8], image: &[u8], funcs: &[u8], lines: &[u8]) {
+    answer(index, 1, number, places);
+    field(checksum(image));
+    field(checksum(funcs));
+    field(checksum(lines));
+    end();
+}
+
+// What else fills one output.
+pub fn bytes(index: u64, kind: u32, number: u32, places: &[u8], out: &[u8]) {
+    answer(index, kind, number, places);
+    field(checksum(out));
+    end();
+}
+
+// A record, with its length.
+pub fn record(index: u64, kind: u32, number: u32, places: &[u8], found: &[u8]) {
+    answer(index, kind, number, places);
+    field(checksum(found));
+    field(found.len() as u64);
+    end();
 }

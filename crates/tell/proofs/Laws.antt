@@ -16,7 +16,7 @@ use Rattle.rules.specs.Rows.{rowSize, wholeRows}
 use Rattle.tell.specs.declared.words.Number.the-variants.{Whole, Not}
 use Rattle.tell.specs.Words.{digitOf, digitsIn, numberIn}
 use Rattle.tell.specs.Marks.{markedRow, markedRows, markRecord, markRecords}
-use Rattle.tell.specs.Listing.{lastAt, lineAt, notBefore}
+use Rattle.tell.specs.Listing.{lastAt, lineAt}
 
 -- ---- digits
 
@@ -120,6 +120,6 @@ module _ (lines : List ℕ) (own start slot : ℕ) where
   line-all e h = rw (eq-eqb start 0 e, le-ltb own (wholeRows LineInfo lines) h, no-less (wholeRows LineInfo lines))
 
   -- of another copy
-  pub line-other : (start ≡ 0 → ⊥) → notBefore lines (lastAt lines (rowSize LineInfo) own slot (wholeRows LineInfo lines - own)) start ≡ lineAt lines own start slot
+  pub line-other : (start ≡ 0 → ⊥) → lastAt lines (rowSize LineInfo) own slot (wholeRows LineInfo lines - own) ≡ lineAt lines own start slot
   unfolding lineAt
   line-other h = rw (ne-eqb start 0 h)

@@ -6,14 +6,28 @@ use mathlib.Core.Bool.{Bool, true, false, cond, not, _||_}
 use mathlib.Core.List.{List, [], _∷_, _++_}
 use Prim.Native.Nat.{ℕ, zero, suc, _+_, _-_, _/_, _%_, _^_, _≤_}
 use lib.Dec.{eqb, leb, ltb}
-use lib.ListN.{length, getD, take, drop}
+use lib.ListN.{length, getD, take}
+use Rattle.tell.specs.declared.lines.Words.{Words}
 
--- a line's first r bytes are what its first `at` were, and `more`; what would stand past the end of its buffer is left out
-pub record Adds (more before : List ℕ) (at : ℕ) (after : List ℕ) (r : ℕ) : Type 0 where
-  pub same : length after ≡ length before
-  pub fits : r ≤ length after
-  pub part : r ≡ length (take r after)
-  pub line : take r after ≡ take (length before) (take at before ++ more)
+-- the bytes that a line has room for
+abbrev pub lineRoom : ℕ
+lineRoom = 160
+
+-- no more of them are words than there are
+pub record Fits (words : Words) : Type 0 where
+  pub room : length (words .bytes) ≡ lineRoom
+  pub within : words .used ≤ lineRoom
+
+-- a line's words are what they were, and `more`; what would stand past the end of its room is left out
+pub record Adds (more : List ℕ) (before after : Words) : Type 0 where
+  pub fits : Fits after
+  pub line : take (after .used) (after .bytes) ≡ take lineRoom (take (before .used) (before .bytes) ++ more)
+
+-- a line's words are these, as far as it has room; and they are the first of its bytes
+pub record Says (more : List ℕ) (words : Words) : Type 0 where
+  pub within : words .used ≤ length (words .bytes)
+  pub part : words .used ≡ length (take (words .used) (words .bytes))
+  pub line : take (words .used) (words .bytes) ≡ take lineRoom more
 
 -- ---- numbers
 
@@ -75,11 +89,7 @@ unfoldable pub wordsIn : List ℕ → List ℕ → ℕ → List ℕ
 wordsIn [] numbers j = []
 wordsIn (t ∷ ts) numbers j = cond (eqb t 10) [] (pieceOf t (getD numbers j 0) ++ wordsIn ts numbers (j + takesOf t))
 
--- line k of a text, with numbers in its places
-abbrev pub said : List ℕ → ℕ → List ℕ → List ℕ
-said text k numbers = wordsIn (lineFrom text k) numbers 0
-
--- lines of a text, one after the other, each with the next three numbers
-unfoldable pub spoken : List ℕ → List ℕ → List ℕ → List ℕ
-spoken text [] numbers = []
-spoken text (k ∷ ks) numbers = said text k numbers ++ spoken text ks (drop 3 numbers)
+-- lines of a text, one after the other, each with the next three numbers from number j on
+unfoldable pub spoken : List ℕ → List ℕ → List ℕ → ℕ → List ℕ
+spoken text [] numbers j = []
+spoken text (k ∷ ks) numbers j = wordsIn (lineFrom text k) numbers j ++ spoken text ks numbers (j + 3)

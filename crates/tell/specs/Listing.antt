@@ -36,18 +36,13 @@ Stands size records slot Nothing = Unit {0}
 unfoldable pub pieceAt : List ℕ → ℕ → Found
 pieceAt pieces slot = lastAt pieces (rowSize FuncInfo) 0 slot (wholeRows FuncInfo pieces)
 
--- a record that stands before the copy's start is another copy's
-abbrev pub notBefore : List ℕ → Found → ℕ → Found
-notBefore lines (At k) start = pickFound (ltb (u32At little lines (rowSize LineInfo * k)) start) Nothing (At k)
-notBefore lines Nothing start = Nothing
-
--- the line record of a slot of the copy at `start`: of the root's `own` records for a slot of the root, else of those after them,
--- the last that stands at or before it, and not before the start
+-- the last line record at or before a slot of the copy at `start`: of the root's `own` records for a slot of the root, else of those
+-- after them
 unfoldable pub lineAt : List ℕ → ℕ → ℕ → ℕ → Found
 lineAt lines own start slot =
     pickFound (eqb start 0)
     (lastAt lines (rowSize LineInfo) 0 slot (cond (ltb own (wholeRows LineInfo lines)) own (wholeRows LineInfo lines)))
-    (notBefore lines (lastAt lines (rowSize LineInfo) own slot (wholeRows LineInfo lines - own)) start)
+    (lastAt lines (rowSize LineInfo) own slot (wholeRows LineInfo lines - own))
 
 -- the function of that copy, where the copy starts, and the function's slot: pieces are function records, with the row as type
 abbrev pub sourceOf : List ℕ → ℕ → Found → Source
@@ -58,14 +53,19 @@ sourceOf pieces slot Nothing = Source·Unknown
 unfoldable pub sourceAt : List ℕ → ℕ → Source
 sourceAt pieces slot = sourceOf pieces slot (pieceAt pieces slot)
 
--- "slot, file, line, column"
-abbrev pub lineIn : List ℕ → Found → Line
-lineIn lines (At k) =
-    Line·At (u32At little lines (rowSize LineInfo * k + 4)) (u32At little lines (rowSize LineInfo * k + 8)) (u32At little lines (rowSize LineInfo * k + 12))
-lineIn lines Nothing = Line·Unknown
+abbrev pub pickLine : Bool → Line → Line → Line
+pickLine true a b = a
+pickLine false a b = b
+
+-- "slot, file, line, column"; a record that stands before the copy's start is another copy's
+abbrev pub lineIn : List ℕ → ℕ → Found → Line
+lineIn lines start (At k) =
+    pickLine (ltb (u32At little lines (rowSize LineInfo * k)) start) Line·Unknown
+    (Line·At (u32At little lines (rowSize LineInfo * k + 4)) (u32At little lines (rowSize LineInfo * k + 8)) (u32At little lines (rowSize LineInfo * k + 12)))
+lineIn lines start Nothing = Line·Unknown
 
 unfoldable pub lineOf : List ℕ → ℕ → ℕ → ℕ → Line
-lineOf lines own start slot = lineIn lines (lineAt lines own start slot)
+lineOf lines own start slot = lineIn lines start (lineAt lines own start slot)
 
 -- ---- a line of the listing: lines 36 to 40 of the text, and three numbers to each
 

@@ -12,3 +12,10 @@ functionsRoom = 2048
 
 abbrev pub marksRoom : ℕ
 marksRoom = 512
+
+-- a tables file as it is held, and table 6 beside it
+abbrev pub fileRoom : ℕ
+fileRoom = 25888
+
+abbrev pub instructionsRoom : ℕ
+instructionsRoom = 12288

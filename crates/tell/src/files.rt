@@ -8,6 +8,7 @@ ghost use Rattle.rules.specs.Bytes.{little, u32At};
 ghost use Rattle.rules.specs.Answers.{placesIn};
 ghost use Rattle.tell.specs.Files.{lengthIn, heldIn, startOf, tableIn};
 ghost use Rattle.tell.specs.Room.{ownMost};
+use crate::room::IMAGE_LENGTHS;
 use crate::room::TABLE_LENGTHS;
 
 // The tables of a file, by number from 0.
@@ -80,13 +81,15 @@ pub fn table(file: &[u8], i: usize) -> &[u8]
 }
 
 // The lengths of the three runs, in their order.
-pub fn put_lengths(out: &mut [u8], image: &[u8], func_info: &[u8], line_info: &[u8])
+pub fn image_lengths(image: &[u8], func_info: &[u8], line_info: &[u8]) -> [u8; IMAGE_LENGTHS]
     requires { ⌜ (length (now image) ≤ ownMost) × ((length (now «func_info») ≤ ownMost) × (length (now «line_info») ≤ ownMost)) ⌝ }
-    ensures { λ _. ⌜ now (out .exit) ≡ placesIn (length (now (out .entry)))
-        (length (now (image .entry)) ∷ length (now («func_info» .entry)) ∷ length (now («line_info» .entry)) ∷ []) ⌝ }
+    ensures { λ r. ⌜ (length r ≡ 12) × (r ≡ placesIn 12
+        (length (now (image .entry)) ∷ length (now («func_info» .entry)) ∷ length (now («line_info» .entry)) ∷ [])) ⌝ }
 {
+    let mut out = [0u8; IMAGE_LENGTHS];
     let a = image.len() as u32;
     let b = func_info.len() as u32;
     let c = line_info.len() as u32;
-    wire::put_places(out, a, b, c);
+    wire::put_places(&mut out, a, b, c);
+    out
 }

@@ -1,10 +1,10 @@
 // A line of words: lines of a text, with numbers in the places that they keep for them.
 ghost use mathlib.Core.Path.{_≡_};
-ghost use mathlib.Core.Bool.{false};
 ghost use mathlib.Core.List.{[], _∷_};
 ghost use Prim.Native.Nat.{_*_, _^_, _≤_, _<_};
 ghost use lib.ListN.{length, getD, drop};
-ghost use Rattle.tell.specs.Lines.{Adds, hexOf, placeOf, decimal, byteWords, bytesWords, pieceOf, takesOf, endsOf, lineFrom, wordsIn, spoken};
+ghost use Rattle.tell.specs.Lines.{Fits, Adds, Says, hexOf, placeOf, decimal, byteWords, bytesWords, pieceOf, takesOf, endsOf, lineFrom, wordsIn, spoken};
+use crate::room::LINE;
 
 // The marks for the next number: in decimal, in decimal as a column of four, its four bytes in hexadecimal, the same with a space
 // before each. And a line's end.
@@ -21,48 +21,59 @@ const NEW_LINE: u8 = b'^';
 // A text's own lines end so.
 const END: u8 = b'\n';
 
-fn put(out: &mut [u8], at: usize, b: u8) -> usize
-    requires { ⌜ at ≤ length (now out) ⌝ }
-    ensures { λ r. ⌜ Adds (b ∷ []) (now (out .entry)) at (now (out .exit)) r ⌝ }
+// A line by value: its bytes, and how many of them are words.
+pub struct Words {
+    pub bytes: [u8; LINE],
+    pub used: usize,
+}
+
+fn put(words: Words, b: u8) -> Words
+    requires { ⌜ Fits words ⌝ }
+    ensures { λ r. ⌜ Adds (b ∷ []) words r ⌝ }
 {
-    if at < out.len() {
-        out[at] = b;
-        return at + 1;
+    let at = words.used;
+    let mut bytes = words.bytes;
+    if at < LINE {
+        bytes[at] = b;
+        return Words {
+            bytes,
+            used: at + 1,
+        };
     }
-    at
+    words
 }
 
 // A digit, or what stands for a zero before the first digit: a space or nothing.
-fn put_place(out: &mut [u8], at: usize, d: u32, begun: bool, blank: bool) -> usize
-    requires { ⌜ (at ≤ length (now out)) × (d < 10) ⌝ }
-    ensures { λ r. ⌜ Adds (placeOf begun blank d) (now (out .entry)) at (now (out .exit)) r ⌝ }
+fn put_place(words: Words, d: u32, begun: bool, blank: bool) -> Words
+    requires { ⌜ Fits words × (d < 10) ⌝ }
+    ensures { λ r. ⌜ Adds (placeOf begun blank d) words r ⌝ }
 {
     if begun {
-        return put(out, at, b'0' + d as u8);
+        return put(words, b'0' + d as u8);
     }
     if blank {
-        return put(out, at, b' ');
+        return put(words, b' ');
     }
-    at
+    words
 }
 
 // In decimal, with spaces before it up to `width`.
-fn put_number(out: &mut [u8], at: usize, n: u32, width: u32) -> usize
-    requires { ⌜ at ≤ length (now out) ⌝ }
-    ensures { λ r. ⌜ Adds (decimal width n) (now (out .entry)) at (now (out .exit)) r ⌝ }
+fn put_number(words: Words, n: u32, width: u32) -> Words
+    requires { ⌜ Fits words ⌝ }
+    ensures { λ r. ⌜ Adds (decimal width n) words r ⌝ }
 {
-    let mut next = at;
+    let mut line = words;
     let mut power: u32 = 1_000_000_000;
     let mut begun = false;
     let mut k: u32 = 10;
     while k > 0 {
         let d = n / power % 10;
         begun = begun | (d != 0) | (k == 1);
-        next = put_place(out, next, d, begun, k <= width);
+        line = put_place(line, d, begun, k <= width);
         power = power / 10;
         k -= 1;
     }
-    next
+    line
 }
 
 fn hex(d: u32) -> u8
@@ -75,62 +86,50 @@ fn hex(d: u32) -> u8
     b'a' - 10 + d as u8
 }
 
-fn put_byte(out: &mut [u8], at: usize, n: u32) -> usize
-    requires { ⌜ at ≤ length (now out) ⌝ }
-    ensures { λ r. ⌜ Adds (byteWords n) (now (out .entry)) at (now (out .exit)) r ⌝ }
+fn put_byte(words: Words, n: u32) -> Words
+    requires { ⌜ Fits words ⌝ }
+    ensures { λ r. ⌜ Adds (byteWords n) words r ⌝ }
 {
-    let next = put(out, at, hex(n / 16 % 16));
-    put(out, next, hex(n % 16))
-}
-
-fn put_space(out: &mut [u8], at: usize, spaced: bool) -> usize
-    requires { ⌜ at ≤ length (now out) ⌝ }
-    ensures { λ r. ⌜ Adds (placeOf false spaced 0) (now (out .entry)) at (now (out .exit)) r ⌝ }
-{
-    if spaced {
-        return put(out, at, b' ');
-    }
-    at
+    put(put(words, hex(n / 16 % 16)), hex(n % 16))
 }
 
 // Four bytes, the least first.
-fn put_bytes(out: &mut [u8], at: usize, n: u32, spaced: bool) -> usize
-    requires { ⌜ at ≤ length (now out) ⌝ }
-    ensures { λ r. ⌜ Adds (bytesWords 4 spaced n) (now (out .entry)) at (now (out .exit)) r ⌝ }
+fn put_bytes(words: Words, n: u32, spaced: bool) -> Words
+    requires { ⌜ Fits words ⌝ }
+    ensures { λ r. ⌜ Adds (bytesWords 4 spaced n) words r ⌝ }
 {
-    let mut next = at;
+    let mut line = words;
     let mut left = n;
     let mut k: u32 = 4;
     while k > 0 {
-        next = put_space(out, next, spaced);
-        next = put_byte(out, next, left);
+        line = put_byte(put_place(line, 0, false, spaced), left);
         left = left / 256;
         k -= 1;
     }
-    next
+    line
 }
 
 // What stands in a line for a byte of its text.
-fn put_piece(out: &mut [u8], at: usize, t: u8, n: u32) -> usize
-    requires { ⌜ at ≤ length (now out) ⌝ }
-    ensures { λ r. ⌜ Adds (pieceOf t n) (now (out .entry)) at (now (out .exit)) r ⌝ }
+fn put_piece(words: Words, t: u8, n: u32) -> Words
+    requires { ⌜ Fits words ⌝ }
+    ensures { λ r. ⌜ Adds (pieceOf t n) words r ⌝ }
 {
     if t == DECIMAL {
-        return put_number(out, at, n, 1);
+        return put_number(words, n, 1);
     }
     if t == COLUMN {
-        return put_number(out, at, n, 4);
+        return put_number(words, n, 4);
     }
     if t == BYTES {
-        return put_bytes(out, at, n, false);
+        return put_bytes(words, n, false);
     }
     if t == SPACED {
-        return put_bytes(out, at, n, true);
+        return put_bytes(words, n, true);
     }
     if t == NEW_LINE {
-        return put(out, at, b'\n');
+        return put(words, b'\n');
     }
-    put(out, at, t)
+    put(words, t)
 }
 
 // 1 for the mark of a number, else 0.
@@ -187,47 +186,38 @@ fn line_start(text: &[u8], k: usize) -> usize
     i
 }
 
-// Line k of a text, with the numbers in its places, after the first `at` bytes of a line.
-pub fn put_line(out: &mut [u8], at: usize, text: &[u8], k: usize, numbers: &[u32]) -> usize
-    requires { ⌜ at ≤ length (now out) ⌝ }
-    ensures { λ r. ⌜ Adds (wordsIn (lineFrom (now (text .entry)) k) (now (numbers .entry)) 0) (now (out .entry)) at (now (out .exit)) r ⌝ }
+// Line k of a text, with the numbers from number `first` on in its places, after what a line has.
+fn put_line(words: Words, text: &[u8], k: usize, numbers: &[u32], first: usize) -> Words
+    requires { ⌜ Fits words × (first ≤ 2 ^ 62) ⌝ }
+    ensures { λ r. ⌜ Adds (wordsIn (lineFrom (now (text .entry)) k) (now (numbers .entry)) first) words r ⌝ }
 {
-    let mut next = at;
+    let mut line = words;
     let mut i = line_start(text, k);
-    let mut j = 0;
+    let mut j = first;
     while i < text.len() {
         let t = text[i];
         if t == END {
-            return next;
+            return line;
         }
-        next = put_piece(out, next, t, number_at(numbers, j));
+        line = put_piece(line, t, number_at(numbers, j));
         j += takes(t);
         i += 1;
     }
-    next
-}
-
-// The numbers of line i and of those after it.
-fn numbers_from(numbers: &[u32], i: usize) -> &[u32]
-    requires { ⌜ 8 * i < 2 ^ 63 ⌝ }
-    ensures { λ r. ⌜ now r ≡ drop (3 * i) (now (numbers .entry)) ⌝ }
-{
-    let from = 3 * i;
-    if from > numbers.len() {
-        return &numbers[0..0];
-    }
-    &numbers[from..]
+    line
 }
 
 // Lines of a text, one after the other, each with the next three numbers.
-pub fn put_lines(out: &mut [u8], text: &[u8], lines: &[usize], numbers: &[u32]) -> usize
-    ensures { λ r. ⌜ Adds (spoken (now (text .entry)) (now (lines .entry)) (now (numbers .entry))) (now (out .entry)) 0 (now (out .exit)) r ⌝ }
+pub fn spoken_line(text: &[u8], lines: &[usize], numbers: &[u32]) -> Words
+    ensures { λ r. ⌜ Says (spoken (now (text .entry)) (now (lines .entry)) (now (numbers .entry)) 0) r ⌝ }
 {
-    let mut next = 0;
+    let mut line = Words {
+        bytes: [0; LINE],
+        used: 0,
+    };
     let mut i = 0;
     while i < lines.len() {
-        next = put_line(out, next, text, lines[i], numbers_from(numbers, i));
+        line = put_line(line, text, lines[i], numbers, 3 * i);
         i += 1;
     }
-    next
+    line
 }

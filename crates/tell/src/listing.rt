@@ -4,7 +4,7 @@ ghost use Prim.Native.Nat.{_*_, _+_, _-_, _≤_};
 ghost use lib.ListN.{length};
 ghost use Rattle.rules.specs.declared.Table.the-variants.{FuncInfo, LineInfo};
 ghost use Rattle.rules.specs.Rows.{rowSize};
-ghost use Rattle.tell.specs.Listing.{lastAt, pieceAt, lineAt, notBefore, Stands, sourceOf, sourceAt, lineIn, lineOf};
+ghost use Rattle.tell.specs.Listing.{lastAt, pieceAt, lineAt, Stands, sourceOf, sourceAt, lineIn, lineOf};
 ghost use Rattle.tell.specs.Listing.{copyLines, copyNumbers, RowOf};
 ghost use Rattle.rules.specs.Bytes.{little, u32At};
 ghost use Rattle.tell.specs.Room.{ownMost};
@@ -48,24 +48,7 @@ pub fn piece_at(pieces: &[u8], slot: u32) -> Found
     )
 }
 
-fn not_before(lines: &[u8], found: Found, start: u32, slot: u32) -> Found
-    requires { ⌜ Stands (rowSize LineInfo) (now lines) slot found ⌝ }
-    ensures { λ r. ⌜ (r ≡ notBefore (now (lines .entry)) found start) × Stands (rowSize LineInfo) (now (lines .entry)) slot r ⌝ }
-{
-    match found {
-        Found::At(k) => {
-            if u32_at(lines, LINE_INFO_SIZE * k) < start {
-                return Found::Nothing;
-            }
-            return Found::At(k);
-        }
-        Found::Nothing => {
-            return Found::Nothing;
-        }
-    }
-}
-
-// The line record of a slot that belongs to the copy at `start`: the root's own records come first.
+// The last line record at or before a slot that belongs to the copy at `start`: the root's own records come first.
 pub fn line_at(lines: &[u8], own: usize, start: u32, slot: u32) -> Found
     ensures { λ r. ⌜ (r ≡ lineAt (now (lines .entry)) own start slot) × Stands (rowSize LineInfo) (now (lines .entry)) slot r ⌝ }
 {
@@ -76,12 +59,7 @@ pub fn line_at(lines: &[u8], own: usize, start: u32, slot: u32) -> Found
         }
         return last_at(lines, LINE_INFO_SIZE, 0, n, slot);
     }
-    not_before(
-        lines,
-        last_at(lines, LINE_INFO_SIZE, own, n, slot),
-        start,
-        slot,
-    )
+    last_at(lines, LINE_INFO_SIZE, own, n, slot)
 }
 
 pub enum Source {
@@ -125,12 +103,16 @@ pub enum Line {
     Unknown,
 }
 
-fn line_in(lines: &[u8], found: Found, slot: u32) -> Line
+// A record that stands before the copy's start is another copy's.
+fn line_in(lines: &[u8], found: Found, start: u32, slot: u32) -> Line
     requires { ⌜ Stands (rowSize LineInfo) (now lines) slot found ⌝ }
-    ensures { λ r. ⌜ r ≡ lineIn (now (lines .entry)) found ⌝ }
+    ensures { λ r. ⌜ r ≡ lineIn (now (lines .entry)) start found ⌝ }
 {
     match found {
         Found::At(k) => {
+            if u32_at(lines, LINE_INFO_SIZE * k) < start {
+                return Line::Unknown;
+            }
             let file = u32_at(lines, LINE_INFO_SIZE * k + 4);
             let line = u32_at(lines, LINE_INFO_SIZE * k + 8);
             let column = u32_at(lines, LINE_INFO_SIZE * k + 12);
@@ -145,7 +127,7 @@ fn line_in(lines: &[u8], found: Found, slot: u32) -> Line
 pub fn line_of(lines: &[u8], own: usize, start: u32, slot: u32) -> Line
     ensures { λ r. ⌜ r ≡ lineOf (now (lines .entry)) own start slot ⌝ }
 {
-    line_in(lines, line_at(lines, own, start, slot), slot)
+    line_in(lines, line_at(lines, own, start, slot), start, slot)
 }
 
 // A line of the listing: the slot's number and bytes, the function and slot that it is a copy of, and its line record.

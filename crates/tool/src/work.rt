@@ -1,12 +1,14 @@
 // The work: the tables are read, the maps set, the root linked, the image written and listed.
-ghost use Prim.Native.Nat.{_≤_, _<_};
+ghost use mathlib.Core.Path.{_≡_};
+ghost use Prim.Native.Nat.{_*_, _≤_};
 ghost use lib.ListN.{length};
 ghost use Rattle.io.specs.Counts.{Counts};
-ghost use Rattle.tell.specs.Room.{ownMost};
+ghost use Rattle.tell.specs.Room.{ownMost, fileRoom, instructionsRoom};
 use clerk::listing;
 use clerk::reading;
 use clerk::status::DONE;
 use clerk::status::NO_TABLES;
+use clerk::steps;
 use clerk::telling;
 use clerk::writing;
 use rows::fields::function_line_info;
@@ -21,7 +23,6 @@ use tell::room::IMAGE_LINE_INFO;
 use tell::room::INSTRUCTIONS;
 use tell::room::PATH;
 use tell::room::PIECES;
-use tell::room::ROOM;
 use tell::text::APPLIED;
 use tell::text::CANNOT_END;
 use tell::text::CANNOT_OPEN;
@@ -34,17 +35,12 @@ use tell::text::NO_TABLES_NAME;
 use tell::words::Told;
 use tell::words::told_of;
 
-// The bytes of so many slots or function records, and of so many line records, within a buffer.
-fn eights(n: u32, buf: &[u8]) -> usize
+// The bytes of so many slots, or of function records, within a buffer. A line record has twice as many.
+fn eights(n: u64, buf: &[u8]) -> usize
+    requires { ⌜ n ≤ 2 * 0xFFFF_FFFF ⌝ }
     ensures { λ r. ⌜ Counts r (now (buf .entry)) ⌝ }
 {
-    io::count((8 * (n as u64)) as isize, buf)
-}
-
-fn sixteens(n: u32, buf: &[u8]) -> usize
-    ensures { λ r. ⌜ Counts r (now (buf .entry)) ⌝ }
-{
-    io::count((16 * (n as u64)) as isize, buf)
+    io::count((8 * n) as isize, buf)
 }
 
 // How many line records are the root's own.
@@ -62,9 +58,9 @@ fn write(own: usize, told: Told, pieces: &[u8], image: &[u8], funcs: &[u8], line
     requires { ⌜ (length (now image) ≤ ownMost) × ((length (now funcs) ≤ ownMost) × (length (now lines) ≤ ownMost)) ⌝ }
     ensures { λ r. ⌜ r ≤ 4 ⌝ }
 {
-    let n = eights(told.a, image);
-    let m = eights(told.b, funcs);
-    let l = sixteens(told.c, lines);
+    let n = eights(told.a as u64, image);
+    let m = eights(told.b as u64, funcs);
+    let l = eights(2 * (told.c as u64), lines);
     let written = writing::write_image(&image[..n], &funcs[..m], &lines[..l]);
     if written != DONE {
         return written;
@@ -112,7 +108,7 @@ fn open() -> i32 {
     let mut path = [0u8; PATH];
     let n = os::arg(1, &mut path);
     if os::errno() != 0 {
-        telling::failed(b"TABLES", NO_TABLES_NAME);
+        fault(NO_TABLES_NAME);
         return -1;
     }
     let fd = os::open_read(&path[..n]);
@@ -122,39 +118,53 @@ fn open() -> i32 {
     fd
 }
 
+// A call on the tables file failed.
+fn fault(k: usize) -> bool {
+    telling::failed(b"TABLES", k);
+    false
+}
+
 // Nothing stands after the tables, and the file is closed.
 fn finish(fd: i32) -> bool {
     let mut more = [0u8; 1];
     let got = libc::read(fd, &mut more);
     if got < 0 {
-        telling::failed(b"TABLES", CANNOT_READ);
-        return false;
+        return fault(CANNOT_READ);
     }
     if got > 0 {
         telling::complain(GOES_ON);
         return false;
     }
     if libc::close(fd) != 0 {
-        telling::failed(b"TABLES", CANNOT_END);
-        return false;
+        return fault(CANNOT_END);
     }
     true
 }
 
-fn work(root: u32, fd: i32, file: &mut [u8], instructions: &mut [u8]) -> u32
-    requires { ⌜ 32 ≤ length (now file) ⌝ }
+// What a tables file stands for, once it is read.
+fn read(fd: i32, file: &mut [u8; FILE], instructions: &mut [u8; INSTRUCTIONS]) -> u32
+    ensures { λ r. ⌜ (r ≤ 4) × ((length (now (file .exit)) ≡ fileRoom) × (length (now (instructions .exit)) ≡ instructionsRoom)) ⌝ }
+{
+    telling::read(reading::read_tables(fd, true, file, instructions))
+}
+
+fn work(root: u32, fd: i32) -> u32
     ensures { λ r. ⌜ r ≤ 4 ⌝ }
 {
-    let room = ROOM;
-    let status = telling::read(reading::read_tables(fd, &room, file, instructions));
+    let mut file = [0u8; FILE];
+    let mut instructions = [0u8; INSTRUCTIONS];
+    let status = read(fd, &mut file, &mut instructions);
     if status != DONE {
         return status;
     }
     if !finish(fd) {
         return NO_TABLES;
     }
-    let n = io::count(length_of(file, files::INSTRUCTIONS) as isize, instructions);
-    map_and_link(root, file, &mut instructions[..n])
+    let n = io::count(
+        length_of(&file, files::INSTRUCTIONS) as isize,
+        &instructions,
+    );
+    map_and_link(root, &file, &mut instructions[..n])
 }
 
 pub fn bark(root: u32) -> u32
@@ -164,7 +174,5 @@ pub fn bark(root: u32) -> u32
     if fd < 0 {
         return NO_TABLES;
     }
-    let mut file = [0u8; FILE];
-    let mut instructions = [0u8; INSTRUCTIONS];
-    work(root, fd, &mut file, &mut instructions)
+    work(root, fd)
 }

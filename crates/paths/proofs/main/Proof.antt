@@ -1,22 +1,17 @@
 -- `paths::main` is safe and ends. The measure is the number of objects that may still come. Assumes nothing.
-use mathlib.Core.Path.{_≡_}
 use Prim.Native.Nat.{_-_}
-use lib.ListN.{length}
 use borrow.Author.Needs.{needs}
 use Rattle.paths.proofs.main.Statement.{statement}
 use Rattle.paths.proofs.main.Tie as tie
 
 abbrev Inv-loop : tie.InvT-loop
-Inv-loop names₀ file₀ instructions₀ index₀ names file instructions index = 128 ≡ length names
+Inv-loop index₀ index = Unit {0}
 
 abbrev μ-loop : tie.MeasureT-loop
-μ-loop names₀ file₀ instructions₀ index₀ names file instructions index = 0xFFFF_FFFF_FFFF_FFFF - index
+μ-loop index₀ index = 0xFFFF_FFFF_FFFF_FFFF - index
 
 loop-holds : tie.Need-loop-holds Inv-loop μ-loop
 loop-holds c = search needs
-
-slice-aggregate-one-object : tie.Need-slice-aggregate-one-object Inv-loop μ-loop
-slice-aggregate-one-object c = search needs
 
 one-object-requires : tie.Need-one-object-requires Inv-loop μ-loop
 one-object-requires c κs = search needs
@@ -43,7 +38,6 @@ main-spec =
     Inv-loop
     μ-loop
     loop-holds
-    slice-aggregate-one-object
     one-object-requires
     add-index
     loop-less

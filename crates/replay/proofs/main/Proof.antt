@@ -5,10 +5,10 @@ use Rattle.replay.proofs.main.Statement.{statement}
 use Rattle.replay.proofs.main.Tie as tie
 
 abbrev Inv-loop : tie.InvT-loop
-Inv-loop file₀ instructions₀ image₀ funcs₀ lines₀ index₀ file instructions image funcs lines index = Unit {0}
+Inv-loop index₀ index = Unit {0}
 
 abbrev μ-loop : tie.MeasureT-loop
-μ-loop file₀ instructions₀ image₀ funcs₀ lines₀ index₀ file instructions image funcs lines index = 0xFFFF_FFFF_FFFF_FFFF - index
+μ-loop index₀ index = 0xFFFF_FFFF_FFFF_FFFF - index
 
 loop-holds : tie.Need-loop-holds Inv-loop μ-loop
 loop-holds c = search needs

@@ -1,25 +1,25 @@
--- The buffers keep their lengths, and the file's lengths their room. The measure is the tables that are left. Assumes nothing.
+-- The buffers keep their lengths. The measure is the tables that are left. Assumes nothing.
 use mathlib.Core.Path.{_≡_}
-use Prim.Native.Nat.{_-_, _≤_}
+use Prim.Native.Nat.{_-_}
 use lib.ListN.{length}
 use borrow.Author.Needs.{needs}
 use Rattle.clerk.proofs.reading.read_after.Statement.{statement}
 use Rattle.clerk.proofs.reading.read_after.Tie as tie
 
 abbrev Inv-loop : tie.InvT-loop
-Inv-loop fd room file₀ instructions₀ i₀ file instructions i = (32 ≤ length file) × ((length file ≡ length file₀) × (length instructions ≡ length instructions₀))
+Inv-loop fd bounded lengths file₀ instructions₀ i₀ file instructions i = (length file ≡ length file₀) × (length instructions ≡ length instructions₀)
 
 abbrev μ-loop : tie.MeasureT-loop
-μ-loop fd room file₀ instructions₀ i₀ file instructions i = 8 - i
+μ-loop fd bounded lengths file₀ instructions₀ i₀ file instructions i = 8 - i
+
+copy-requires : tie.Need-copy-requires Inv-loop μ-loop
+copy-requires c κs = search needs
 
 loop-holds : tie.Need-loop-holds Inv-loop μ-loop
 loop-holds c = search needs
 
-mul-read-table : tie.Need-mul-read-table Inv-loop μ-loop
-mul-read-table c = search needs
-
-element-copy-out-read-table : tie.Need-element-copy-out-read-table Inv-loop μ-loop
-element-copy-out-read-table c = search needs
+most-of-requires : tie.Need-most-of-requires Inv-loop μ-loop
+most-of-requires c κs = search needs
 
 read-table-requires : tie.Need-read-table-requires Inv-loop μ-loop
 read-table-requires c κs = search needs
@@ -60,9 +60,9 @@ read-after-spec =
     (tie.spec
     Inv-loop
     μ-loop
+    copy-requires
     loop-holds
-    mul-read-table
-    element-copy-out-read-table
+    most-of-requires
     read-table-requires
     enum-told
     same-length

@@ -7,7 +7,7 @@ use Rattle.rules.specs.Rows.{Offered}
 use Rattle.rules.specs.Entries.{Outputs, linkEntry}
 use Rattle.rules.specs.Lent.{Buffers}
 use Rattle.barkruffle.specs.Promises.{LinkTold}
-use Rattle.steps.proofs.Offers.{same-offer}
+use Rattle.clerk.proofs.Offers.{same-offer}
 use borrow.Author.Needs.{needs}
 use Rattle.replay.proofs.run.link.Statement.{statement}
 use Rattle.replay.proofs.run.link.Tie as tie
@@ -37,20 +37,8 @@ table-requires-6 c κs = search needs
 barkruffle-link-requires : tie.Need-barkruffle-link-requires
 barkruffle-link-requires c κs = search needs
 
-answer-requires : tie.Need-answer-requires
-answer-requires c κs = search needs
-
-sum-requires : tie.Need-sum-requires
-sum-requires c κs = search needs
-
-sum-requires-2 : tie.Need-sum-requires-2
-sum-requires-2 c κs = search needs
-
-sum-requires-3 : tie.Need-sum-requires-3
-sum-requires-3 c κs = search needs
-
-end-requires : tie.Need-end-requires
-end-requires c κs = search needs
+link-requires : tie.Need-link-requires
+link-requires c κs = search needs
 
 same-length : tie.Need-same-length
 same-length c = search needs
@@ -66,15 +54,17 @@ same-length-4 c = search needs
 
 returns : tie.Need-returns
 returns c =
+    let entry = c .before .before .before .before .before .before .before .before .before .before .before .before .before in
+    let tables = entry .before .before .before .before .before in
     of-held _ _ _ _ _ _ _ _
     (same-offer _
-    (c .before .before .before .before .before .before .before .before .before .before .before .before .before .before .before .before .before .before .before .before .before .before .before .before .before .before .before .table .ensures)
-    (c .before .before .before .before .before .before .before .before .before .before .before .before .before .before .before .before .before .before .before .before .before .before .before .before .before .before .table2 .ensures)
-    (c .before .before .before .before .before .before .before .before .before .before .before .before .before .before .before .before .before .before .before .before .before .before .before .before .before .table3 .ensures)
-    (c .before .before .before .before .before .before .before .before .before .before .before .before .before .before .before .before .before .before .before .before .before .before .before .before .table4 .ensures)
-    (c .before .before .before .before .before .before .before .before .before .before .before .before .before .before .before .before .before .before .before .before .before .before .before .table5 .ensures)
-    (c .before .before .before .before .before .before .before .before .before .before .before .before .before .before .before .before .before .before .before .before .before .before .table6 .ensures))
-    (c .before .before .before .before .before .before .before .before .before .before .before .before .before .before .before .before .before .barkruffle-link .ensures)
+    (tables .before .before .before .before .before .table .ensures)
+    (tables .before .before .before .before .table2 .ensures)
+    (tables .before .before .before .table3 .ensures)
+    (tables .before .before .table4 .ensures)
+    (tables .before .table5 .ensures)
+    (tables .table6 .ensures))
+    (entry .barkruffle-link .ensures)
 
 pub link-spec : {M : Type 1} → statement M
 link-spec =
@@ -87,11 +77,7 @@ link-spec =
     table-requires-5
     table-requires-6
     barkruffle-link-requires
-    answer-requires
-    sum-requires
-    sum-requires-2
-    sum-requires-3
-    end-requires
+    link-requires
     same-length
     same-length-2
     same-length-3

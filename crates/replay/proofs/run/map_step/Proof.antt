@@ -6,7 +6,7 @@ use Rattle.rules.specs.Bytes.{little}
 use Rattle.rules.specs.Rows.{Offered}
 use Rattle.rules.specs.Entries.{mapEntry}
 use Rattle.barkruffle.specs.Promises.{MapTold}
-use Rattle.steps.proofs.Offers.{same-map-offer}
+use Rattle.clerk.proofs.Offers.{same-map-offer}
 use borrow.Author.Needs.{needs}
 use Rattle.replay.proofs.run.map_step.Statement.{statement}
 use Rattle.replay.proofs.run.map_step.Tie as tie
@@ -33,14 +33,8 @@ table-requires-5 c κs = search needs
 barkruffle-relocate-maps-requires : tie.Need-barkruffle-relocate-maps-requires
 barkruffle-relocate-maps-requires c κs = search needs
 
-answer-requires : tie.Need-answer-requires
-answer-requires c κs = search needs
-
-sum-requires : tie.Need-sum-requires
-sum-requires c κs = search needs
-
-end-requires : tie.Need-end-requires
-end-requires c κs = search needs
+bytes-requires : tie.Need-bytes-requires
+bytes-requires c κs = search needs
 
 same-length : tie.Need-same-length
 same-length c = search needs
@@ -50,14 +44,16 @@ same-length-2 c = search needs
 
 returns : tie.Need-returns
 returns c =
+    let entry = c .before .before .before .before .before .before .before in
+    let tables = entry .before .before .before in
     of-held _ _ _ _ _ _
     (same-map-offer _
-    (c .before .before .before .before .before .before .before .before .before .before .before .before .before .before .before .before .table .ensures)
-    (c .before .before .before .before .before .before .before .before .before .before .before .before .before .before .before .table2 .ensures)
-    (c .before .before .before .before .before .before .before .before .before .before .before .before .before .before .table3 .ensures)
-    (c .before .before .before .before .before .before .before .before .before .before .before .before .before .table4 .ensures)
-    (c .before .before .before .before .before .before .before .before .before .before .before .before .table5 .ensures))
-    (c .before .before .before .before .before .before .before .before .before .barkruffle-relocate-maps .ensures)
+    (tables .before .before .before .before .table .ensures)
+    (tables .before .before .before .table2 .ensures)
+    (tables .before .before .table3 .ensures)
+    (tables .before .table4 .ensures)
+    (tables .table5 .ensures))
+    (entry .barkruffle-relocate-maps .ensures)
 
 pub map-step-spec : {M : Type 1} → statement M
 map-step-spec =
@@ -69,9 +65,7 @@ map-step-spec =
     table-requires-4
     table-requires-5
     barkruffle-relocate-maps-requires
-    answer-requires
-    sum-requires
-    end-requires
+    bytes-requires
     same-length
     same-length-2
     returns)

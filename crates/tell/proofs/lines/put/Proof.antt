@@ -1,24 +1,20 @@
--- The byte stands at the line's end, or there is no room for it. Assumes nothing.
-use native.Mathlib.Omega.{arith}
+-- The byte stands after the words, or there is no room for it. Assumes nothing.
 use Rattle.tell.proofs.Added.{one, full}
 use borrow.Author.Needs.{needs}
 use Rattle.tell.proofs.lines.put.Statement.{statement}
 use Rattle.tell.proofs.lines.put.Tie as tie
 
-slice-write-out : tie.Need-slice-write-out
-slice-write-out c = search needs
+array-write-bytes : tie.Need-array-write-bytes
+array-write-bytes c = search needs
 
-add-result : tie.Need-add-result
-add-result c = search needs
-
-same-length : tie.Need-same-length
-same-length c = search needs
+add-t9 : tie.Need-add-t9
+add-t9 c = search needs
 
 returns : tie.Need-returns
-returns c = one _ _ _ (c .if1 .taken)
+returns c = one _ _ (c .before .before .pre) (c .if1 .taken)
 
 returns-2 : tie.Need-returns-2
-returns-2 c = full _ _ _ (omega arith)
+returns-2 c = full _ _ (c .before .before .pre) (c .if1 .left)
 
 pub put-spec : {M : Type 1} → statement M
-put-spec = tie.close (tie.spec slice-write-out add-result same-length returns returns-2)
+put-spec = tie.close (tie.spec array-write-bytes add-t9 returns returns-2)

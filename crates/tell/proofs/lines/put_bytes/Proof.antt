@@ -4,22 +4,19 @@ use mathlib.Core.Bool.{Bool, false}
 use mathlib.Core.List.{List, [], _++_}
 use Prim.Native.Nat.{ℕ, suc, _-_, _/_, _≤_, _<_}
 use native.Mathlib.Omega.{arith}
-use borrow.Author.Needs.{needs}
-use lib.ListN.{length}
-use Rattle.tell.specs.Lines.{Adds, placeOf, byteWords, bytesWords}
+use Rattle.tell.specs.declared.lines.Words.{Words}
+use Rattle.tell.specs.Lines.{Fits, Adds, placeOf, byteWords, bytesWords}
 use Rattle.tell.proofs.Added.{none, then, renamed}
+use borrow.Author.Needs.{needs}
 use Rattle.tell.proofs.lines.put_bytes.Statement.{statement}
 use Rattle.tell.proofs.lines.put_bytes.Tie as tie
 
 abbrev Inv-loop : tie.InvT-loop
-Inv-loop out₀ at n spaced next₀ left₀ k₀ out next left k =
-    (k ≤ 4)
-    × ((next ≤ length out)
-    × ((length out ≡ length out₀)
-    × ((z : List ℕ) (r : ℕ) → Adds (bytesWords k spaced left) out next z r → Adds (bytesWords 4 spaced n) out₀ at z r)))
+Inv-loop n spaced line₀ left₀ k₀ line left k =
+    (k ≤ 4) × (Fits line × ((z : Words) → Adds (bytesWords k spaced left) line z → Adds (bytesWords 4 spaced n) line₀ z))
 
 abbrev μ-loop : tie.MeasureT-loop
-μ-loop out₀ at n spaced next₀ left₀ k₀ out next left k = k
+μ-loop n spaced line₀ left₀ k₀ line left k = k
 
 more : (k : ℕ) (spaced : Bool) (n : ℕ) → 0 < k → placeOf false spaced 0 ++ (byteWords n ++ bytesWords (k - 1) spaced (n / 256)) ≡ bytesWords k spaced n
 unfolding bytesWords
@@ -32,13 +29,13 @@ unfolding bytesWords
 last k spaced n e = sym (ap (λ (j : ℕ). bytesWords j spaced n) e)
 
 loop-holds : tie.Need-loop-holds Inv-loop μ-loop
-loop-holds c = (omega arith, (search needs, (refl, λ z r h. h)))
+loop-holds c = (omega arith, (c .pre, λ z h. h))
 
-put-space-requires : tie.Need-put-space-requires Inv-loop μ-loop
-put-space-requires c κs = c .before .before .loop .inv .1 .0
+put-place-requires : tie.Need-put-place-requires Inv-loop μ-loop
+put-place-requires c κs = (c .before .loop .inv .1 .0, omega arith)
 
 put-byte-requires : tie.Need-put-byte-requires Inv-loop μ-loop
-put-byte-requires c κs = search needs
+put-byte-requires c κs = c .put-place .ensures .fits
 
 sub-k : tie.Need-sub-k Inv-loop μ-loop
 sub-k c = search needs
@@ -48,27 +45,21 @@ loop-less c = search needs
 
 loop-again : tie.Need-loop-again Inv-loop μ-loop
 loop-again c =
-    let l = c .before .before .before .before .before .before .before .before .before .loop in
-    let s = c .before .before .before .before .before .before .before .before .before .before .before .args in
-    let p = c .before .before .before .before .before .before .put-space in
-    let q = c .before .before .put-byte in (
+    let l = c .before .before .before .loop in
+    let s = c .before .before .before .before .args in
+    let p = c .before .put-place in
+    let q = c .put-byte in (
       omega arith,
       (
         q .ensures .fits,
-        (
-          q .ensures .same ∙ p .ensures .same ∙ l .inv .1 .1 .0,
-          λ z r h. l .inv .1 .1 .1 z r (renamed _ _ _ _ _ _ (more (l .k) (s .spaced) (l .left) (c .before .before .before .before .before .before .before .before .loop-test .taken)) (then _ _ _ _ _ _ _ _ (p .ensures) (then _ _ _ _ _ _ _ _ (q .ensures) h))),
-        ),
+        λ z h. l .inv .1 .1 z (renamed _ _ _ _ (more (l .k) (s .spaced) (l .left) (c .before .before .loop-test .taken)) (then _ _ _ _ _ (p .ensures) (then _ _ _ _ _ (q .ensures) h))),
       ),
     )
-
-same-length : tie.Need-same-length Inv-loop μ-loop
-same-length c = search needs
 
 returns : tie.Need-returns Inv-loop μ-loop
 returns c =
     let l = c .before .loop in
-    l .inv .1 .1 .1 (l .out) (l .next) (renamed _ _ _ _ _ _ (last (l .k) (c .before .before .before .args .spaced) (l .left) (omega arith)) (none _ _ (l .inv .1 .0)))
+    l .inv .1 .1 (l .line) (renamed _ _ _ _ (last (l .k) (c .before .before .args .spaced) (l .left) (omega arith)) (none _ (l .inv .1 .0)))
 
 pub put-bytes-spec : {M : Type 1} → statement M
 put-bytes-spec =
@@ -77,10 +68,9 @@ put-bytes-spec =
     Inv-loop
     μ-loop
     loop-holds
-    put-space-requires
+    put-place-requires
     put-byte-requires
     sub-k
     loop-less
     loop-again
-    same-length
     returns)

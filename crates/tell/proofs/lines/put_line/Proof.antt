@@ -1,30 +1,27 @@
 -- The invariant: what adds the rest of the text's line adds the whole. Assumes nothing.
-use mathlib.Core.Path.{_≡_, refl, sym, ap, subst, _∙_}
+use mathlib.Core.Path.{_≡_, refl, sym, ap, _∙_}
 use mathlib.Core.Bool.{Bool, cond}
 use mathlib.Core.List.{List, [], _∷_, _++_}
 use Prim.Native.Nat.{ℕ, suc, _+_, _-_, _≤_, _<_}
 use native.Mathlib.Omega.{arith}
 use native.Mathlib.Numerals.{add-one}
-use borrow.Author.Needs.{needs}
 use borrow.Author.Tests.{eq-eqb, ne-eqb}
-use lib.Dec.{eqb}
 use lib.ListN.{length, getD, drop}
 use lib.Seq.{drop-cons, drop-length}
-use Rattle.tell.specs.Lines.{Adds, pieceOf, takesOf, lineFrom, wordsIn}
+use Rattle.tell.specs.declared.lines.Words.{Words}
+use Rattle.tell.specs.Lines.{Fits, Adds, pieceOf, takesOf, lineFrom, wordsIn}
 use Rattle.tell.proofs.Added.{none, then, renamed}
+use borrow.Author.Needs.{needs}
 use Rattle.tell.proofs.lines.put_line.Statement.{statement}
 use Rattle.tell.proofs.lines.put_line.Tie as tie
 
 abbrev Inv-loop : tie.InvT-loop
-Inv-loop out₀ at text k numbers next₀ i₀ j₀ out next i j =
+Inv-loop text k numbers first line₀ i₀ j₀ line i j =
     (i ≤ length text)
-    × ((j ≤ i)
-    × ((next ≤ length out)
-    × ((length out ≡ length out₀)
-    × ((z : List ℕ) (r : ℕ) → Adds (wordsIn (drop i text) numbers j) out next z r → Adds (wordsIn (lineFrom text k) numbers 0) out₀ at z r))))
+    × ((j ≤ first + i) × (Fits line × ((z : Words) → Adds (wordsIn (drop i text) numbers j) line z → Adds (wordsIn (lineFrom text k) numbers first) line₀ z)))
 
 abbrev μ-loop : tie.MeasureT-loop
-μ-loop out₀ at text k numbers next₀ i₀ j₀ out next i j = length text - i
+μ-loop text k numbers first line₀ i₀ j₀ line i j = length text - i
 
 at-end : (text numbers : List ℕ) (i j : ℕ) → i < length text → getD text i 0 ≡ 10 → [] ≡ wordsIn (drop i text) numbers j
 unfolding wordsIn
@@ -52,27 +49,24 @@ line-start-requires c κs = search needs
 
 loop-holds : tie.Need-loop-holds Inv-loop μ-loop
 loop-holds c =
-    let s = c .before .before .before .before .args in
+    let s = c .before .before .before .args in
     let e = c .line-start .ensures .1 in
-    (c .line-start .ensures .0, (omega arith, (search needs, (refl, λ z r h. renamed _ _ _ _ _ _ (ap (λ (x : List ℕ). wordsIn x (s .numbers .now) 0) e) h))))
+    (c .line-start .ensures .0, (omega arith, (c .before .before .before .pre .0, λ z h. renamed _ _ _ _ (ap (λ (x : List ℕ). wordsIn x (s .numbers .now) (s .first)) e) h)))
 
 shared-slice-read-t : tie.Need-shared-slice-read-t Inv-loop μ-loop
 shared-slice-read-t c = search needs
 
-same-length : tie.Need-same-length Inv-loop μ-loop
-same-length c = search needs
-
 returns : tie.Need-returns Inv-loop μ-loop
 returns c =
     let l = c .before .before .before .loop in
-    let s = c .before .before .before .before .before .before .before .before .args in
-    l .inv .1 .1 .1 .1 (l .out) (l .next) (renamed _ _ _ _ _ _ (at-end (s .text .now) (s .numbers .now) (l .i) (l .j) (c .before .before .loop-test .taken) (c .if1 .taken)) (none _ _ (l .inv .1 .1 .0)))
+    let s = c .before .before .before .before .before .before .before .args in
+    l .inv .1 .1 .1 (l .line) (renamed _ _ _ _ (at-end (s .text .now) (s .numbers .now) (l .i) (l .j) (c .before .before .loop-test .taken) (c .if1 .taken)) (none _ (l .inv .1 .1 .0)))
 
 number-at-requires : tie.Need-number-at-requires Inv-loop μ-loop
 number-at-requires c κs = search needs
 
 put-piece-requires : tie.Need-put-piece-requires Inv-loop μ-loop
-put-piece-requires c κs = c .before .before .before .before .before .loop .inv .1 .1 .0
+put-piece-requires c κs = c .before .before .before .before .loop .inv .1 .1 .0
 
 takes-requires : tie.Need-takes-requires Inv-loop μ-loop
 takes-requires c κs = search needs
@@ -88,31 +82,26 @@ loop-less c = search needs
 
 loop-again : tie.Need-loop-again Inv-loop μ-loop
 loop-again c =
-    let l = c .before .before .before .before .before .before .before .before .before .loop in
-    let s = c .before .before .before .before .before .before .before .before .before .before .before .before .before .before .args in
-    let p = c .before .before .before .put-piece in
-    let o : pieceOf (getD (s .text .now) (l .i) 0) (c .before .before .before .before .number-at .result) ++ wordsIn (drop (l .i + 1) (s .text .now)) (s .numbers .now) (l .j + c .takes .result)
-    ≡ wordsIn (drop (l .i) (s .text .now)) (s .numbers .now) (l .j) =
-    on (s .text .now) (s .numbers .now) (l .i) (l .j) (getD (s .text .now) (l .i) 0) (c .before .before .before .before .number-at .result) (c .takes .result) (c .before .before .before .before .before .before .before .before .loop-test .taken) refl (c .before .before .before .before .before .before .if1 .left) (c .before .before .before .before .number-at .ensures) (c .takes .ensures .0)
+    let l = c .before .before .before .before .before .before .loop in
+    let s = c .before .before .before .before .before .before .before .before .before .before .args in
+    let t = c .before .before .before .before .before .loop-test .taken in
+    let n = c .before .before .number-at in
+    let p = c .before .put-piece in
+    let o =
+    on (s .text .now) (s .numbers .now) (l .i) (l .j) (getD (s .text .now) (l .i) 0) (n .result) (c .takes .result) t refl (c .before .before .before .if1 .left) (n .ensures) (c .takes .ensures .0)
     in (
-      omega (arith, c .before .before .before .before .before .before .before .before .loop-test .taken),
+      omega (arith, t),
       (
         omega (arith, c .takes .ensures .1, l .inv .1 .0),
-        (
-          p .ensures .fits,
-          (p .ensures .same ∙ l .inv .1 .1 .1 .0, λ z r h. l .inv .1 .1 .1 .1 z r (renamed _ _ _ _ _ _ o (then _ _ _ _ _ _ _ _ (p .ensures) h))),
-        ),
+        (p .ensures .fits, λ z h. l .inv .1 .1 .1 z (renamed _ _ _ _ o (then _ _ _ _ _ (p .ensures) h))),
       ),
     )
-
-same-length-2 : tie.Need-same-length-2 Inv-loop μ-loop
-same-length-2 c = search needs
 
 returns-2 : tie.Need-returns-2 Inv-loop μ-loop
 returns-2 c =
     let l = c .before .loop in
-    let s = c .before .before .before .before .before .before .args in
-    l .inv .1 .1 .1 .1 (l .out) (l .next) (renamed _ _ _ _ _ _ (past (s .text .now) (s .numbers .now) (l .i) (l .j) (omega arith)) (none _ _ (l .inv .1 .1 .0)))
+    let s = c .before .before .before .before .before .args in
+    l .inv .1 .1 .1 (l .line) (renamed _ _ _ _ (past (s .text .now) (s .numbers .now) (l .i) (l .j) (omega arith)) (none _ (l .inv .1 .1 .0)))
 
 pub put-line-spec : {M : Type 1} → statement M
 put-line-spec =
@@ -123,7 +112,6 @@ put-line-spec =
     line-start-requires
     loop-holds
     shared-slice-read-t
-    same-length
     returns
     number-at-requires
     put-piece-requires
@@ -132,5 +120,4 @@ put-line-spec =
     add-i
     loop-less
     loop-again
-    same-length-2
     returns-2)

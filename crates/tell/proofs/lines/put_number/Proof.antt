@@ -5,23 +5,21 @@ use mathlib.Core.List.{List, [], _++_}
 use Prim.Native.Nat.{ℕ, zero, suc, _+_, _-_, _*_, _/_, _%_, _^_, _≤_, _<_}
 use native.Mathlib.Omega.{arith}
 use native.Mathlib.Nat.{pow-succ', one-le-pow, mul-div-cancel-left, mod-lt}
-use borrow.Author.Needs.{needs}
 use lib.Dec.{leb}
-use lib.ListN.{length}
-use Rattle.tell.specs.Lines.{Adds, placeOf, shows, numeral, decimal}
+use Rattle.tell.specs.declared.lines.Words.{Words}
+use Rattle.tell.specs.Lines.{Fits, Adds, placeOf, shows, numeral, decimal}
 use Rattle.tell.proofs.Added.{none, then, renamed}
+use borrow.Author.Needs.{needs}
 use Rattle.tell.proofs.lines.put_number.Statement.{statement}
 use Rattle.tell.proofs.lines.put_number.Tie as tie
 
 abbrev Inv-loop : tie.InvT-loop
-Inv-loop out₀ at n width next₀ power₀ begun₀ k₀ out next power begun k =
+Inv-loop n width line₀ power₀ begun₀ k₀ line power begun k =
     (k ≤ 10)
-    × ((power ≡ 10 ^ k / 10)
-    × ((next ≤ length out)
-    × ((length out ≡ length out₀) × ((z : List ℕ) (r : ℕ) → Adds (numeral k begun width n) out next z r → Adds (decimal width n) out₀ at z r))))
+    × ((power ≡ 10 ^ k / 10) × (Fits line × ((z : Words) → Adds (numeral k begun width n) line z → Adds (decimal width n) line₀ z)))
 
 abbrev μ-loop : tie.MeasureT-loop
-μ-loop out₀ at n width next₀ power₀ begun₀ k₀ out next power begun k = k
+μ-loop n width line₀ power₀ begun₀ k₀ line power begun k = k
 
 tenth : (m : ℕ) → 10 ^ suc m / 10 ≡ 10 ^ m
 tenth m = ap (λ (x : ℕ). x / 10) (pow-succ' 10 m) ∙ mul-div-cancel-left (10 ^ m) (omega arith)
@@ -57,13 +55,13 @@ unfolding numeral
 last k begun width n e = sym (ap (λ (j : ℕ). numeral j begun width n) e)
 
 loop-holds : tie.Need-loop-holds Inv-loop μ-loop
-loop-holds c = (omega arith, (refl, (search needs, (refl, λ z r h. h))))
+loop-holds c = (omega arith, (refl, (c .pre, λ z h. h)))
 
 div-d : tie.Need-div-d Inv-loop μ-loop
 div-d c = power-pos _ _ (c .loop-test .taken) (c .before .loop .inv .1 .0)
 
 put-place-requires : tie.Need-put-place-requires Inv-loop μ-loop
-put-place-requires c κs = (c .before .before .loop .inv .1 .1 .0, mod-lt (c .before .before .before .before .args .n / c .before .before .loop .power) (omega arith))
+put-place-requires c κs = (c .before .loop .inv .1 .1 .0, mod-lt (c .before .before .args .n / c .before .loop .power) (omega arith))
 
 sub-k : tie.Need-sub-k Inv-loop μ-loop
 sub-k c = search needs
@@ -73,30 +71,23 @@ loop-less c = search needs
 
 loop-again : tie.Need-loop-again Inv-loop μ-loop
 loop-again c =
-    let l = c .before .before .before .before .before .loop in
-    let s = c .before .before .before .before .before .before .before .args in
-    let p = c .before .before .put-place in
-    let t = c .before .before .before .before .loop-test .taken in (
+    let l = c .before .before .loop in
+    let s = c .before .before .before .args in
+    let p = c .put-place in
+    let t = c .before .loop-test .taken in
+    let e = power-is (l .k) (l .power) t (l .inv .1 .0) in (
       omega arith,
       (
-        ap (λ (x : ℕ). x / 10) (power-is (l .k) (l .power) t (l .inv .1 .0)),
-        (
-          p .ensures .fits,
-          (
-            p .ensures .same ∙ l .inv .1 .1 .1 .0,
-            λ z r h. l .inv .1 .1 .1 .1 z r (renamed _ _ _ _ _ _ (more (l .k) (l .power) (s .n) (s .width) (l .begun) t (power-is (l .k) (l .power) t (l .inv .1 .0))) (then _ _ _ _ _ _ _ _ (p .ensures) h)),
-          ),
-        ),
+        ap (λ (x : ℕ). x / 10) e,
+        (p .ensures .fits, λ z h. l .inv .1 .1 .1 z (renamed _ _ _ _ (more (l .k) (l .power) (s .n) (s .width) (l .begun) t e) (then _ _ _ _ _ (p .ensures) h))),
       ),
     )
-
-same-length : tie.Need-same-length Inv-loop μ-loop
-same-length c = search needs
 
 returns : tie.Need-returns Inv-loop μ-loop
 returns c =
     let l = c .before .loop in
-    l .inv .1 .1 .1 .1 (l .out) (l .next) (renamed _ _ _ _ _ _ (last (l .k) (l .begun) (c .before .before .before .args .width) (c .before .before .before .args .n) (omega arith)) (none _ _ (l .inv .1 .1 .0)))
+    let s = c .before .before .args in
+    l .inv .1 .1 .1 (l .line) (renamed _ _ _ _ (last (l .k) (l .begun) (s .width) (s .n) (omega arith)) (none _ (l .inv .1 .1 .0)))
 
 pub put-number-spec : {M : Type 1} → statement M
 put-number-spec =
@@ -110,5 +101,4 @@ put-number-spec =
     sub-k
     loop-less
     loop-again
-    same-length
     returns)

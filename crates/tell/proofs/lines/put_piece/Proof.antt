@@ -31,76 +31,52 @@ itself t n f g h k e = rw (ne-eqb t 35 f, ne-eqb t 126 g, ne-eqb t 36 h, ne-eqb 
 put-number-requires : tie.Need-put-number-requires
 put-number-requires c κs = search needs
 
-same-length : tie.Need-same-length
-same-length c = search needs
-
 returns : tie.Need-returns
-returns c = renamed _ _ _ _ _ _ (in-decimal _ _ (c .before .before .before .before .if1 .taken)) (c .before .before .put-number .ensures)
+returns c = renamed _ _ _ _ (in-decimal _ _ (c .before .if1 .taken)) (c .put-number .ensures)
 
 put-number-requires-2 : tie.Need-put-number-requires-2
 put-number-requires-2 c κs = search needs
 
-same-length-2 : tie.Need-same-length-2
-same-length-2 c = search needs
-
 returns-2 : tie.Need-returns-2
-returns-2 c = renamed _ _ _ _ _ _ (in-column _ _ (c .before .before .before .before .before .if1 .left) (c .before .before .before .before .if2 .taken)) (c .before .before .put-number2 .ensures)
+returns-2 c = renamed _ _ _ _ (in-column _ _ (c .before .before .if1 .left) (c .before .if2 .taken)) (c .put-number2 .ensures)
 
 put-bytes-requires : tie.Need-put-bytes-requires
 put-bytes-requires c κs = search needs
 
-same-length-3 : tie.Need-same-length-3
-same-length-3 c = search needs
-
 returns-3 : tie.Need-returns-3
-returns-3 c = renamed _ _ _ _ _ _ (in-hex _ _ (c .before .before .before .before .before .before .if1 .left) (c .before .before .before .before .before .if2 .left) (c .before .before .before .before .if3 .taken)) (c .before .before .put-bytes .ensures)
+returns-3 c = renamed _ _ _ _ (in-hex _ _ (c .before .before .before .if1 .left) (c .before .before .if2 .left) (c .before .if3 .taken)) (c .put-bytes .ensures)
 
 put-bytes-requires-2 : tie.Need-put-bytes-requires-2
 put-bytes-requires-2 c κs = search needs
 
-same-length-4 : tie.Need-same-length-4
-same-length-4 c = search needs
-
 returns-4 : tie.Need-returns-4
-returns-4 c = renamed _ _ _ _ _ _ (spaced _ _ (c .before .before .before .before .before .before .before .if1 .left) (c .before .before .before .before .before .before .if2 .left) (c .before .before .before .before .before .if3 .left) (c .before .before .before .before .if4 .taken)) (c .before .before .put-bytes2 .ensures)
+returns-4 c = renamed _ _ _ _ (spaced _ _ (c .before .before .before .before .if1 .left) (c .before .before .before .if2 .left) (c .before .before .if3 .left) (c .before .if4 .taken)) (c .put-bytes2 .ensures)
 
 put-requires : tie.Need-put-requires
 put-requires c κs = search needs
 
-same-length-5 : tie.Need-same-length-5
-same-length-5 c = search needs
-
 returns-5 : tie.Need-returns-5
-returns-5 c = renamed _ _ _ _ _ _ (line-end _ (c .before .before .before .before .before .before .before .before .before .before .args .n) (c .before .before .before .before .before .before .before .before .if1 .left) (c .before .before .before .before .before .before .before .if2 .left) (c .before .before .before .before .before .before .if3 .left) (c .before .before .before .before .before .if4 .left) (c .before .before .before .before .if5 .taken)) (c .before .before .put .ensures)
+returns-5 c = renamed _ _ _ _ (line-end _ (c .before .before .before .before .before .before .args .n) (c .before .before .before .before .before .if1 .left) (c .before .before .before .before .if2 .left) (c .before .before .before .if3 .left) (c .before .before .if4 .left) (c .before .if5 .taken)) (c .put .ensures)
 
 put-requires-2 : tie.Need-put-requires-2
 put-requires-2 c κs = search needs
 
-same-length-6 : tie.Need-same-length-6
-same-length-6 c = search needs
-
 returns-6 : tie.Need-returns-6
-returns-6 c = renamed _ _ _ _ _ _ (itself _ (c .before .before .before .before .before .before .before .before .before .before .args .n) (c .before .before .before .before .before .before .before .before .if1 .left) (c .before .before .before .before .before .before .before .if2 .left) (c .before .before .before .before .before .before .if3 .left) (c .before .before .before .before .before .if4 .left) (c .before .before .before .before .if5 .left)) (c .before .before .put2 .ensures)
+returns-6 c = renamed _ _ _ _ (itself _ (c .before .before .before .before .before .before .args .n) (c .before .before .before .before .before .if1 .left) (c .before .before .before .before .if2 .left) (c .before .before .before .if3 .left) (c .before .before .if4 .left) (c .before .if5 .left)) (c .put2 .ensures)
 
 pub put-piece-spec : {M : Type 1} → statement M
 put-piece-spec =
     tie.close
     (tie.spec
     put-number-requires
-    same-length
     returns
     put-number-requires-2
-    same-length-2
     returns-2
     put-bytes-requires
-    same-length-3
     returns-3
     put-bytes-requires-2
-    same-length-4
     returns-4
     put-requires
-    same-length-5
     returns-5
     put-requires-2
-    same-length-6
     returns-6)

@@ -1,9 +1,9 @@
+-- A digit, a space or nothing. Assumes nothing.
 use mathlib.Core.Path.{_≡_, sym, ap, _∙_}
 use mathlib.Core.Bool.{Bool, true, false}
 use mathlib.Core.List.{List, [], _∷_}
 use Prim.Native.Nat.{ℕ, _+_}
 use Rattle.tell.specs.Lines.{placeOf}
--- A digit, a space or nothing. Assumes nothing.
 use Rattle.tell.proofs.Added.{none, renamed}
 use borrow.Author.Needs.{needs}
 use Rattle.tell.proofs.lines.put_place.Statement.{statement}
@@ -27,34 +27,18 @@ add-put c = search needs
 put-requires : tie.Need-put-requires
 put-requires c κs = search needs
 
-same-length : tie.Need-same-length
-same-length c = search needs
-
 returns : tie.Need-returns
-returns c = renamed _ _ _ _ _ _ (digit _ _ _ (c .before .before .before .before .if1 .taken)) (c .before .before .put .ensures)
+returns c = renamed _ _ _ _ (digit _ _ _ (c .before .if1 .taken)) (c .put .ensures)
 
 put-requires-2 : tie.Need-put-requires-2
 put-requires-2 c κs = search needs
 
-same-length-2 : tie.Need-same-length-2
-same-length-2 c = search needs
-
 returns-2 : tie.Need-returns-2
-returns-2 c = renamed _ _ _ _ _ _ (space _ _ (c .before .before .before .before .before .before .before .args .d) (c .before .before .before .before .before .if1 .left) (c .before .before .before .before .if2 .taken)) (c .before .before .put2 .ensures)
+returns-2 c = renamed _ _ _ _ (space _ _ (c .before .before .before .args .d) (c .before .before .if1 .left) (c .before .if2 .taken)) (c .put2 .ensures)
 
 returns-3 : tie.Need-returns-3
-returns-3 c = renamed _ _ _ _ _ _ (nothing _ _ (c .before .before .before .args .d) (c .before .if1 .left) (c .if2 .left)) (none _ _ (search needs))
+returns-3 c = renamed _ _ _ _ (nothing _ _ (c .before .before .args .d) (c .before .if1 .left) (c .if2 .left)) (none _ (c .before .before .pre .0))
 
 pub put-place-spec : {M : Type 1} → statement M
 put-place-spec =
-    tie.close
-    (tie.spec
-    cast-put
-    add-put
-    put-requires
-    same-length
-    returns
-    put-requires-2
-    same-length-2
-    returns-2
-    returns-3)
+    tie.close (tie.spec cast-put add-put put-requires returns put-requires-2 returns-2 returns-3)

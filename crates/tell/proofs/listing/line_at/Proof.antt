@@ -1,7 +1,5 @@
 -- The root's own records for a slot of the root, else those after them. Assumes nothing.
-use mathlib.Core.Path.{ap, _∙_}
-use Rattle.rules.specs.declared.Found.{Found}
-use Rattle.tell.specs.Listing.{notBefore}
+use mathlib.Core.Path.{_∙_}
 use Rattle.tell.proofs.Laws.{line-own, line-all, line-other}
 use borrow.Author.Needs.{needs}
 use Rattle.tell.proofs.listing.line_at.Statement.{statement}
@@ -26,17 +24,10 @@ returns-2 c =
 last-at-requires-3 : tie.Need-last-at-requires-3
 last-at-requires-3 c κs = search needs
 
-not-before-requires : tie.Need-not-before-requires
-not-before-requires c κs = search needs
-
 returns-3 : tie.Need-returns-3
 returns-3 c =
-    let a = c .before .before .before .before .args in (
-      c .not-before .ensures .0
-          ∙ ap (λ (f : Found). notBefore (a .lines .now) f (a .start)) (c .before .last-at3 .ensures .0)
-          ∙ line-other (a .lines .now) (a .own) (a .start) (a .slot) (c .before .before .if1 .left),
-      c .not-before .ensures .1,
-    )
+    let a = c .before .before .before .args in
+    (c .last-at3 .ensures .0 ∙ line-other (a .lines .now) (a .own) (a .start) (a .slot) (c .before .if1 .left), c .last-at3 .ensures .1)
 
 pub line-at-spec : {M : Type 1} → statement M
 line-at-spec =
@@ -47,5 +38,4 @@ line-at-spec =
     last-at-requires-2
     returns-2
     last-at-requires-3
-    not-before-requires
     returns-3)

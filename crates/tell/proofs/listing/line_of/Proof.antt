@@ -15,7 +15,7 @@ returns : tie.Need-returns
 unfolding lineOf
 returns c =
     let a = c .before .before .before .args in
-    c .line-in .ensures ∙ ap (lineIn (a .lines .now)) (c .before .line-at .ensures .0)
+    c .line-in .ensures ∙ ap (lineIn (a .lines .now) (a .start)) (c .before .line-at .ensures .0)
 
 pub line-of-spec : {M : Type 1} → statement M
 line-of-spec = tie.close (tie.spec line-at-requires line-in-requires returns)
