@@ -8,15 +8,16 @@
 #include <string.h>
 #include "fuzz.h"
 
-enum { MAPS, LINK, LINK_ROWS, FUNC, LINE, FUNC_RECORD, LINE_RECORD, FUNC_NUMBER, LINE_NUMBER, ENTRIES };
+enum { MAPS, LINK, LINK_ROWS, FIND, FUNC, LINE, FUNC_RECORD, LINE_RECORD, FUNC_NUMBER, LINE_NUMBER, ENTRIES };
 
-#define NUMBERS 33
+#define NUMBERS 15
 #define BIT(n) ((uint64_t)1 << (n))
 #define LINK_NUMBERS (0xf | BIT(6) | BIT(8) | BIT(9) | BIT(10) | BIT(11) | BIT(12) | BIT(13))
 
 static void try_maps(struct input *in);
 static void try_link(struct input *in);
 static void try_link_rows(struct input *in);
+static void try_find(struct input *in);
 static void try_func_rows(struct input *in);
 static void try_line_rows(struct input *in);
 static void try_func_record(struct input *in);
@@ -24,7 +25,8 @@ static void try_line_record(struct input *in);
 static void try_func_number(struct input *in);
 static void try_line_number(struct input *in);
 
-/* The map step is tried first: a link may take what it made of table 6. A record's part counts as 0, no part as 14. */
+/* The map step is tried first: a link may take what it made of table 6. A record's part counts as 0, no part as 14; a symbol's
+ * row counts as 0, no row as 3. */
 static const struct entry {
     const char *name;
     uint64_t numbers;
@@ -32,7 +34,8 @@ static const struct entry {
 } entries[ENTRIES] = {
     [MAPS] = {"barkruffle_relocate_maps", 0xff, try_maps},
     [LINK] = {"barkruffle_link", LINK_NUMBERS, try_link},
-    [LINK_ROWS] = {"barkruffle_link_rows", LINK_NUMBERS | BIT(BARKRUFFLE_SHORT_SCRATCH), try_link_rows},
+    [LINK_ROWS] = {"barkruffle_link_rows", LINK_NUMBERS, try_link_rows},
+    [FIND] = {"barkruffle_find_symbol", BIT(0) | BIT(3), try_find},
     [FUNC] = {"barkruffle_func_info", BIT(0) | BIT(11) | BIT(14), try_func_rows},
     [LINE] = {"barkruffle_line_info", BIT(0) | BIT(11) | BIT(14), try_line_rows},
     [FUNC_RECORD] = {"barkruffle_func_info_record", BIT(0) | BIT(14), try_func_record},
@@ -86,7 +89,7 @@ static const struct round others[3] = {{AT_ODD, 0x96, 0}, {PACKED_UP, 0x69, 0}, 
 /* What a call left. */
 struct left {
     struct answer answer;
-    uint8_t places[24], out[3][MOST], scratch[MOST];
+    uint8_t places[24], out[3][MOST];
 };
 
 static struct left one, two, other;
@@ -234,25 +237,20 @@ static void try_maps(struct input *in)
 
 static const size_t row_out[3] = {8, 8, 16}, most_out[3] = {4096, 256, 4096};
 
-/* The scratch of a call of barkruffle_link, which has none. */
-#define NO_SCRATCH SIZE_MAX
-
-/* With a scratch it is barkruffle_link_rows, and the scratch lies beside the rows that are laid into it. */
-static void link_by(const struct input *in, const size_t *out_len, struct round r, size_t places_len, size_t scratch_len,
+/* By barkruffle_link, or by rows: by barkruffle_link_rows. */
+static void link_by(int by_rows, const struct input *in, const size_t *out_len, struct round r, size_t places_len,
                     struct left *got)
 {
     const struct bytes *b = in->table;
     const uint8_t *t[9];
     const struct barkruffle_symbol *rows = NULL;
-    uint8_t *out[3], *scratch = NULL;
-    int by_rows = scratch_len != NO_SCRATCH;
+    uint8_t *out[3];
     r.places_len = places_len;
     open_round(&r);
     for (int i = 1; i <= 8; i++)
-        if (i == 2 && by_rows) {
-            scratch = lend_filled(r.before, scratch_len);
+        if (i == 2 && by_rows)
             rows = lend_rows(b[2].at, b[2].len);
-        } else if (i != 5)
+        else if (i != 5)
             t[i] = i > 6 && in->shared ? t[6] : lend(b[i].at, b[i].len);
     for (int i = 0; i < 3; i++)
         out[i] = lend_filled(r.before, out_len[i]);
@@ -260,15 +258,13 @@ static void link_by(const struct input *in, const size_t *out_len, struct round 
     uint32_t number =
         by_rows ? barkruffle_link_rows(t[1], b[1].len, rows, b[2].len / sizeof *rows, t[3], b[3].len, t[4], b[4].len, t[6],
                                        b[6].len, t[7], b[7].len, t[8], b[8].len, in->root, out[0], out_len[0], out[1],
-                                       out_len[1], out[2], out_len[2], places, places_len, scratch, scratch_len)
+                                       out_len[1], out[2], out_len[2], places, places_len)
                 : barkruffle_link(t[1], b[1].len, t[2], b[2].len, t[3], b[3].len, t[4], b[4].len, t[6], b[6].len, t[7],
                                   b[7].len, t[8], b[8].len, in->root, out[0], out_len[0], out[1], out_len[1], out[2],
                                   out_len[2], places, places_len);
     for (int i = 0; i < 3; i++)
         if (out_len[i])
             memcpy(got->out[i], out[i], out_len[i]);
-    if (by_rows && scratch_len)
-        memcpy(got->scratch, scratch, scratch_len);
     close_round(&r, number, places, got);
     for (int i = 0; i < 3 && number; i++)
         hold(all_zero(got->out[i], out_len[i]), "a refused link leaves a byte");
@@ -276,7 +272,7 @@ static void link_by(const struct input *in, const size_t *out_len, struct round 
 
 static void link_once(const struct input *in, const size_t *out_len, struct round r, size_t places_len, struct left *got)
 {
-    link_by(in, out_len, r, places_len, NO_SCRATCH, got);
+    link_by(0, in, out_len, r, places_len, got);
 }
 
 /* An accepted image: its counts fit, and zero follows. */
@@ -329,10 +325,17 @@ static void try_exact(const struct input *in, const struct left *full)
     }
 }
 
-static void try_link(struct input *in)
+static void link_as_model(const struct input *in, const struct left *got)
 {
     static uint8_t want[3][MOST];
     uint8_t *const outs[3] = {want[0], want[1], want[2]};
+    as_model(got, model_link(tables_of(in), in->root, in->out_len, outs));
+    for (int i = 0; i < 3; i++)
+        hold(same(got->out[i], want[i], in->out_len[i]), "other bytes than document 01's");
+}
+
+static void try_link(struct input *in)
+{
     link_once(in, in->out_len, first, in->places_len, &one);
     link_once(in, in->out_len, again, BARKRUFFLE_PLACES, &two);
     same_answer(&one, in->places_len, &two);
@@ -347,27 +350,18 @@ static void try_link(struct input *in)
     }
     if (two.answer.number != 11)
         try_larger(in, &two);
-    as_model(&two, model_link(tables_of(in), in->root, in->out_len, outs));
-    for (int i = 0; i < 3; i++)
-        hold(same(two.out[i], want[i], in->out_len[i]), "other bytes than document 01's");
+    link_as_model(in, &two);
     count(two.answer);
 }
 
-/* ---- the link with rows */
+/* ---- table 2 lent as rows */
 
-/* What the rows take of a scratch, and so what it needs. */
-static size_t laid(const struct input *in)
-{
-    return in->table[2].len < BARKRUFFLE_SCRATCH ? in->table[2].len : BARKRUFFLE_SCRATCH;
-}
+/* A slice of rows has no partial row: one that table 2 ends with is left away. */
+static void whole_rows(struct input *in) { in->table[2].len -= in->table[2].len % sizeof(struct barkruffle_symbol); }
 
-/* A scratch that is long enough, by `more` bytes too long: the rows in it, and as it was after them. */
-static void rows_once(const struct input *in, struct round r, size_t places_len, size_t more, struct left *got)
+static void rows_once(const struct input *in, struct round r, size_t places_len, struct left *got)
 {
-    link_by(in, in->out_len, r, places_len, laid(in) + more, got);
-    hold(got->answer.number != BARKRUFFLE_SHORT_SCRATCH, "a scratch that is long enough is refused");
-    hold(same(got->scratch, in->table[2].at, laid(in)), "the scratch does not start with the rows");
-    hold(all_are(got->scratch + laid(in), more, r.before), "the scratch is written after the rows");
+    link_by(1, in, in->out_len, r, places_len, got);
 }
 
 /* The same as barkruffle_link over the rows' bytes. */
@@ -380,37 +374,16 @@ static void as_link(const struct input *in, const struct left *got)
         hold(same(got->out[i], other.out[i], in->out_len[i]), "other bytes than barkruffle_link's");
 }
 
-static void rows_as_model(const struct input *in, size_t scratch_len, const struct left *got)
-{
-    static uint8_t want[3][MOST];
-    uint8_t *const outs[3] = {want[0], want[1], want[2]};
-    as_model(got, model_link_rows(tables_of(in), in->root, in->out_len, outs, scratch_len));
-    for (int i = 0; i < 3; i++)
-        hold(same(got->out[i], want[i], in->out_len[i]), "other bytes than document 01's");
-}
-
-/* A scratch that is too short, which is told whatever else is wrong. */
-static void short_once(const struct input *in, struct round r, size_t places_len, size_t len)
-{
-    link_by(in, in->out_len, r, places_len, len, &other);
-    hold(other.answer.number == BARKRUFFLE_SHORT_SCRATCH, "a scratch that is too short is not refused with 32");
-    hold(all_zero(other.places, places_len), "a place is told with 32");
-    hold(all_are(other.scratch, len, r.before), "a scratch that is too short is written");
-    rows_as_model(in, len, &other);
-    count(other.answer);
-}
-
-/* A slice of rows has no partial row: one that table 2 ends with is left away. */
 static void try_link_rows(struct input *in)
 {
-    in->table[2].len -= in->table[2].len % sizeof(struct barkruffle_symbol);
-    rows_once(in, first, in->places_len, 0, &one);
-    rows_once(in, again, BARKRUFFLE_PLACES, 0, &two);
+    whole_rows(in);
+    rows_once(in, first, in->places_len, &one);
+    rows_once(in, again, BARKRUFFLE_PLACES, &two);
     same_answer(&one, in->places_len, &two);
     for (int i = 0; i < 3; i++)
         hold(same(one.out[i], two.out[i], in->out_len[i]), "called twice, other bytes");
     for (int r = 0; r < 3; r++) {
-        rows_once(in, others[r], BARKRUFFLE_PLACES, (size_t)r * (in->k % 60), &other);
+        rows_once(in, others[r], BARKRUFFLE_PLACES, &other);
         same_answer(&other, BARKRUFFLE_PLACES, &two);
         for (int i = 0; i < 3; i++)
             hold(same(other.out[i], two.out[i], in->out_len[i]), "called elsewhere, other bytes");
@@ -419,14 +392,45 @@ static void try_link_rows(struct input *in)
     if (two.answer.number == 0)
         is_image(in->out_len, &two);
     as_link(in, &two);
-    rows_as_model(in, laid(in), &two);
+    link_as_model(in, &two);
     count(two.answer);
-    if (laid(in)) {
-        short_once(in, first, in->places_len, laid(in) - 1);
-        short_once(in, again, BARKRUFFLE_PLACES, in->k % laid(in));
-        for (int r = 0; r < 3; r++)
-            short_once(in, others[r], BARKRUFFLE_PLACES, laid(in) - 1);
-    }
+}
+
+static uint64_t row_once(const struct input *in, const struct round *r, uint32_t index)
+{
+    open_round(r);
+    const struct barkruffle_symbol *rows = lend_rows(in->table[2].at, in->table[2].len);
+    uint64_t row = barkruffle_find_symbol(rows, in->table[2].len / sizeof *rows, index);
+    const char *wrong = take_back();
+    if (wrong)
+        finding(wrong);
+    return row;
+}
+
+static void try_index(const struct input *in, uint32_t index)
+{
+    uint64_t row = row_once(in, &first, index);
+    hold(row_once(in, &again, index) == row, "called twice, another row");
+    for (int r = 0; r < 3; r++)
+        hold(row_once(in, &others[r], index) == row, "called elsewhere, another row");
+    hold(row == BARKRUFFLE_NONE || row < in->table[2].len / sizeof(struct barkruffle_symbol), "a row that is not there");
+    hold(row == model_find(tables_of(in), index), "another row than document 01's");
+    count((struct answer){row == BARKRUFFLE_NONE ? 3 : 0, {0, 0, 0}});
+}
+
+/* Some number; an index that a row has, and the next; the last row's. */
+static void try_find(struct input *in)
+{
+    whole_rows(in);
+    const struct bytes *t = &in->table[2];
+    size_t rows = t->len / sizeof(struct barkruffle_symbol);
+    try_index(in, in->k);
+    if (rows == 0)
+        return;
+    uint32_t index = u32_at(t->at + in->k % rows * sizeof(struct barkruffle_symbol));
+    try_index(in, index);
+    try_index(in, index + 1);
+    try_index(in, u32_at(t->at + (rows - 1) * sizeof(struct barkruffle_symbol)));
 }
 
 /* ---- the readers */

@@ -1,6 +1,6 @@
 /* Lengths past 32 bits, once in each run: memory that is all zero and takes no room, 2^32 bytes and some more, lent as each
- * table in turn, as the readers' data and as the scratch; and 2^32 rows. A length, a count or a product cut to 32 bits would
- * be taken for a small one. */
+ * table in turn and as the readers' data; and 2^32 rows. A length, a count or a product cut to 32 bits would be taken for a
+ * small one. */
 #define _GNU_SOURCE
 #include <stdio.h>
 #include <stdlib.h>
@@ -49,32 +49,17 @@ static void long_tables(const uint8_t *zeros)
     }
 }
 
-/* `count` rows, all zero, and no other table. */
-static int is_rows_answer(const uint8_t *zeros, size_t count, uint8_t *scratch, size_t scratch_len, uint32_t want, uint32_t a)
+/* `count` rows, all zero, and no other table: 1 for table 2, and index 0 in row 0. */
+static void long_rows(const uint8_t *zeros, size_t count, const char *what)
 {
+    const struct barkruffle_symbol *rows = (const void *)zeros;
     uint8_t places[BARKRUFFLE_PLACES], out[3][16];
     memset(out, 0x5a, sizeof out);
-    uint32_t number = barkruffle_link_rows(NULL, 0, (const void *)zeros, count, NULL, 0, NULL, 0, NULL, 0, NULL, 0, NULL, 0, 0,
-                                           out[0], 16, out[1], 16, out[2], 16, places, sizeof places, scratch, scratch_len);
-    return is_answer(number, places, want, a) && out[0][0] == 0 && memcmp(out[0], out[0] + 1, sizeof out - 1) == 0;
-}
-
-/* Only the start of the scratch can be written. */
-static void long_rows(const uint8_t *zeros, uint8_t *scratch)
-{
-    static uint8_t enough[BARKRUFFLE_SCRATCH];
-    hold(is_rows_answer(zeros, LONG_ROWS, enough, 8, 32, 0) &&
-         is_rows_answer(zeros, LONG_ROWS, enough, sizeof enough - 1, 32, 0) &&
-         is_rows_answer(zeros, LONG_ROWS, enough, sizeof enough, 1, 2),
-         "barkruffle_link_rows", "rows of more bytes than 32 bits tell");
-    hold(is_rows_answer(zeros, 1, scratch, (size_t)1 << 32, 13, 0), "barkruffle_link_rows", "a scratch past 32 bits");
-}
-
-static void many_rows(const uint8_t *zeros)
-{
-    static uint8_t enough[BARKRUFFLE_SCRATCH];
-    hold(is_rows_answer(zeros, MANY_ROWS, enough, 0, 32, 0) && is_rows_answer(zeros, MANY_ROWS, enough, sizeof enough, 1, 2),
-         "barkruffle_link_rows", "a count past 32 bits");
+    uint32_t number = barkruffle_link_rows(NULL, 0, rows, count, NULL, 0, NULL, 0, NULL, 0, NULL, 0, NULL, 0, 0, out[0], 16,
+                                           out[1], 16, out[2], 16, places, sizeof places);
+    hold(is_answer(number, places, 1, 2) && out[0][0] == 0 && memcmp(out[0], out[0] + 1, sizeof out - 1) == 0,
+         "barkruffle_link_rows", what);
+    hold(barkruffle_find_symbol(rows, count, 0) == 0, "barkruffle_find_symbol", what);
 }
 
 static int is_part(struct barkruffle_part p, uint64_t at, uint64_t len) { return p.at == at && p.len == len; }
@@ -102,11 +87,11 @@ static void long_data(const uint8_t *zeros)
          "barkruffle_line_info_record_number", "data past 32 bits");
 }
 
-/* Zeros of which the first `writable` bytes can be written, or NULL, which is told. */
-static uint8_t *map_zeros(size_t len, size_t writable)
+/* Zeros that cannot be written, or NULL, which is told. */
+static uint8_t *map_zeros(size_t len)
 {
     uint8_t *zeros = mmap(NULL, len, PROT_READ, MAP_PRIVATE | MAP_ANONYMOUS | MAP_NORESERVE, -1, 0);
-    if (zeros != MAP_FAILED && mprotect(zeros, writable, PROT_READ | PROT_WRITE) == 0)
+    if (zeros != MAP_FAILED)
         return zeros;
     fprintf(stderr, "fuzz: what takes %zu bytes of zeros is left out\n", len);
     return NULL;
@@ -115,19 +100,15 @@ static uint8_t *map_zeros(size_t len, size_t writable)
 void try_long(void)
 {
     const size_t many = MANY_ROWS * sizeof(struct barkruffle_symbol);
-    uint8_t *zeros = map_zeros(LONG, 0), *scratch = map_zeros(LONG, 4096), *rows = map_zeros(many, 0);
+    uint8_t *zeros = map_zeros(LONG), *rows = map_zeros(many);
     if (zeros) {
         long_tables(zeros);
         long_data(zeros);
+        long_rows(zeros, LONG_ROWS, "rows of more bytes than 32 bits tell");
+        munmap(zeros, LONG);
     }
-    if (zeros && scratch)
-        long_rows(zeros, scratch);
     if (rows) {
-        many_rows(rows);
+        long_rows(rows, MANY_ROWS, "a count past 32 bits");
         munmap(rows, many);
     }
-    if (scratch)
-        munmap(scratch, LONG);
-    if (zeros)
-        munmap(zeros, LONG);
 }

@@ -2,7 +2,6 @@
  * search starts at the table's first row. The fuzz harness and the comparison with the Rust files (compare/) share it. Being
  * compiled with the harness, it also shows the fuzzer which rules an input reaches, which the archive does not. */
 #include <string.h>
-#include "barkruffle.h"
 #include "model.h"
 
 const size_t row_size[9] = {0, 4, 24, 32, 24, 16, 8, 8, 16};
@@ -444,16 +443,13 @@ struct answer model_link(const struct run *table, uint32_t root, const size_t *o
     return model_link_reaching(table, root, out_len, out, &reached);
 }
 
-/* The link with table 2 lent as rows: 32 before all else where a scratch has no room for them, or for one more than table 2
- * may have. */
-struct answer model_link_rows(const struct run *table, uint32_t root, const size_t *out_len, uint8_t *const *out,
-                              size_t scratch_len)
+/* The first row of table 2 with an index, a partial row not among them. */
+uint64_t model_find(const struct run *table, uint32_t index)
 {
-    size_t rows = rows_of(table, 2) > most_rows[2] + 1 ? most_rows[2] + 1 : rows_of(table, 2);
-    if (scratch_len >= rows * row_size[2])
-        return model_link(table, root, out_len, out);
-    wipe(out_len, out);
-    return answer(BARKRUFFLE_SHORT_SCRATCH, 0, 0);
+    for (size_t k = 0; k < rows_of(table, 2); k++)
+        if (u32_at(row_of(table, 2, k)) == index)
+            return k;
+    return MODEL_NO_ROW;
 }
 
 /* ---- the readers: rows of 8 bytes are function records, of 16 line records */

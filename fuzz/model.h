@@ -28,8 +28,8 @@ uint64_t u64_at(const uint8_t *p);
  * as many as table 6 has. */
 struct answer model_maps(const struct run *table, uint8_t *instructions);
 struct answer model_link(const struct run *table, uint32_t root, const size_t *out_len, uint8_t *const *out);
-struct answer model_link_rows(const struct run *table, uint32_t root, const size_t *out_len, uint8_t *const *out,
-                              size_t scratch_len);
+#define MODEL_NO_ROW UINT64_MAX
+uint64_t model_find(const struct run *table, uint32_t index);
 struct answer model_read(size_t row, uint32_t size, uint32_t count, struct run data, uint8_t *out, size_t out_len);
 struct answer model_record(size_t row, uint32_t size, uint32_t count, struct run data, uint32_t k);
 

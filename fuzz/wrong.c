@@ -16,11 +16,10 @@ enum wrong {
     MAPS_REFUSED_CHANGES, MAPS_ONE_MORE, MAPS_OPCODE,
     MAPS_UNSAID, MAPS_DESCRIPTOR, MAPS_PART_OF_PLACE, FUNC_READS_PAST, FUNC_NOT_DIVIDED, FUNC_LEAVES_A_BYTE, LINE_ROW_AFTER,
     LINE_ELEVEN_FIRST, FUNC_PART_LONGER, LINE_PART_ON_REFUSAL, FUNC_NEXT_PART, FUNC_NUMBER_AT_COUNT, LINE_NUMBER_READS_BEFORE,
-    ROWS_NINE_FOR_EIGHT, ROWS_THIRTY_THREE, ROWS_ONE_SLOT_MORE, ROWS_ONE_OFF, ROWS_LEAVE_A_BYTE, ROWS_ONE_LESS, ROWS_LAST_UNSEEN,
-    ROWS_PAST_SCRATCH, ROWS_BEFORE_SCRATCH, ROWS_AFTER_ROWS, ROWS_SHORT_WRITTEN, ROWS_SHORT_PLACE, ROWS_SHORT_ACCEPTED,
-    ROWS_SHORT_LAST, ROWS_EXACT_REFUSED, ROWS_ALL_WANTED, ROWS_READ_PAST, ROWS_STORED, ROWS_NEIGHBOUR_OTHER, ROWS_GAP_BEFORE,
-    ROWS_GAP_AFTER, LENGTH_IN_32_BITS, PART_IN_32_BITS, ROWS_COUNT_IN_32_BITS, ROWS_BYTES_IN_32_BITS,
-    ROWS_SCRATCH_IN_32_BITS, WRONGS
+    ROWS_NINE_FOR_EIGHT, ROWS_FOURTEEN, ROWS_ONE_SLOT_MORE, ROWS_ONE_OFF, ROWS_LEAVE_A_BYTE, ROWS_LAST_UNSEEN, ROWS_LIMIT_UNSEEN,
+    ROWS_READ_PAST, ROWS_STORED, ROWS_NEIGHBOUR_OTHER, FIND_INDEX, FIND_NONE_IS_COUNT, FIND_NONE_IN_32_BITS, FIND_LAST,
+    FIND_LAST_UNSEEN, FIND_READS_PAST, FIND_STORES, FIND_PAGE_OTHER, LENGTH_IN_32_BITS, PART_IN_32_BITS,
+    ROWS_COUNT_IN_32_BITS, ROWS_BYTES_IN_32_BITS, FIND_COUNT_IN_32_BITS, WRONGS
 };
 
 /* The error, and what the harness has to say. */
@@ -75,47 +74,37 @@ static const struct {
     [LINE_NUMBER_READS_BEFORE] = {"a record's number reads before the data",
                                   "barkruffle_line_info_record_number: trapped: an access before buffer 0"},
     [ROWS_NINE_FOR_EIGHT] = {"link with rows tells 9 for 8", "barkruffle_link_rows: another number than barkruffle_link's"},
-    [ROWS_THIRTY_THREE] = {"link with rows tells a short scratch as 33",
-                           "barkruffle_link_rows: a number that the header does not give it"},
+    [ROWS_FOURTEEN] = {"link with rows tells 14 for 1", "barkruffle_link_rows: a number that the header does not give it"},
     [ROWS_ONE_SLOT_MORE] = {"link with rows tells one slot too many", "barkruffle_link_rows: other places than barkruffle_link's"},
     [ROWS_ONE_OFF] = {"link with rows sets the last slot's immediate one off",
                       "barkruffle_link_rows: other bytes than barkruffle_link's"},
-    [ROWS_LEAVE_A_BYTE] = {"a short scratch leaves the last function record's last byte",
+    [ROWS_LEAVE_A_BYTE] = {"a refused link with rows leaves the last function record's last byte",
                            "barkruffle_link_rows: a refused link leaves a byte"},
-    [ROWS_ONE_LESS] = {"one row less is laid out", "barkruffle_link_rows: the scratch does not start with the rows"},
-    [ROWS_LAST_UNSEEN] = {"the last row is laid out and not linked",
-                          "barkruffle_link_rows: another number than barkruffle_link's"},
-    [ROWS_PAST_SCRATCH] = {"a byte is written past the scratch", "barkruffle_link_rows: guard bytes written after buffer 1"},
-    [ROWS_BEFORE_SCRATCH] = {"a byte is written before the scratch", "barkruffle_link_rows: guard bytes written before buffer 1"},
-    [ROWS_AFTER_ROWS] = {"a byte of the scratch after the rows is written",
-                         "barkruffle_link_rows: the scratch is written after the rows"},
-    [ROWS_SHORT_WRITTEN] = {"rows are laid into a short scratch",
-                            "barkruffle_link_rows: a scratch that is too short is written"},
-    [ROWS_SHORT_PLACE] = {"a short scratch is told with its rows", "barkruffle_link_rows: a place is told with 32"},
-    [ROWS_SHORT_ACCEPTED] = {"a scratch that is a byte short is accepted",
-                             "barkruffle_link_rows: a scratch that is too short is not refused with 32"},
-    [ROWS_SHORT_LAST] = {"1 is told before 32", "barkruffle_link_rows: a scratch that is too short is not refused with 32"},
-    [ROWS_EXACT_REFUSED] = {"link with rows wants a byte of scratch more than it needs",
-                            "barkruffle_link_rows: a scratch that is long enough is refused"},
-    [ROWS_ALL_WANTED] = {"link with rows wants scratch for all of more than 1025 rows",
-                         "barkruffle_link_rows: a scratch that is long enough is refused"},
-    [ROWS_READ_PAST] = {"link with rows reads a row past them", "barkruffle_link_rows: trapped: an access past buffer 2"},
+    [ROWS_LAST_UNSEEN] = {"the last row is not linked", "barkruffle_link_rows: another number than barkruffle_link's"},
+    [ROWS_LIMIT_UNSEEN] = {"no more rows are looked at than table 2 may have",
+                           "barkruffle_link_rows: 1 is not told exactly where a table has too many rows"},
+    [ROWS_READ_PAST] = {"link with rows reads a row past them", "barkruffle_link_rows: trapped: an access past buffer 1"},
     [ROWS_STORED] = {"link with rows stores into a row what stands there",
-                     "barkruffle_link_rows: trapped: a write to the read-only buffer 2"},
-    [ROWS_NEIGHBOUR_OTHER] = {"rows are laid wrongly into a scratch that they follow",
-                              "barkruffle_link_rows: the scratch does not start with the rows"},
-    [ROWS_GAP_BEFORE] = {"a byte is written between the scratch and the rows after it",
-                         "barkruffle_link_rows: guard bytes written before buffer 2"},
-    [ROWS_GAP_AFTER] = {"a byte is written between the rows and the scratch after them",
-                        "barkruffle_link_rows: guard bytes written after buffer 2"},
+                     "barkruffle_link_rows: trapped: a write to the read-only buffer 1"},
+    [ROWS_NEIGHBOUR_OTHER] = {"link with rows copies wrongly where the image follows the tables",
+                              "barkruffle_link_rows: called elsewhere, other bytes"},
+    [FIND_INDEX] = {"the index is told for its row", "barkruffle_find_symbol: a"},
+    [FIND_NONE_IS_COUNT] = {"no row is told as the rows' count", "barkruffle_find_symbol: a row that is not there"},
+    [FIND_NONE_IN_32_BITS] = {"no row is told as 32 ones", "barkruffle_find_symbol: a row that is not there"},
+    [FIND_LAST] = {"the last row with the index is told", "barkruffle_find_symbol: another row than document 01's"},
+    [FIND_LAST_UNSEEN] = {"the last row is not searched", "barkruffle_find_symbol: another row than document 01's"},
+    [FIND_READS_PAST] = {"the search reads a row past them", "barkruffle_find_symbol: trapped: an access past buffer 0"},
+    [FIND_STORES] = {"the search stores into a row what stands there",
+                     "barkruffle_find_symbol: trapped: a write to the read-only buffer 0"},
+    [FIND_PAGE_OTHER] = {"the search goes by where the rows lie", "barkruffle_find_symbol: called twice, another row"},
     [LENGTH_IN_32_BITS] = {"link takes the low 32 bits of a length", "barkruffle_link: a length past 32 bits is not 1"},
     [PART_IN_32_BITS] = {"a part starts at the low 32 bits of its place", "barkruffle_line_info_record: data past 32 bits"},
     [ROWS_COUNT_IN_32_BITS] = {"link with rows takes the low 32 bits of their count",
                                "barkruffle_link_rows: a count past 32 bits"},
-    [ROWS_BYTES_IN_32_BITS] = {"link with rows takes the low 32 bits of what they need",
+    [ROWS_BYTES_IN_32_BITS] = {"link with rows takes the low 32 bits of their bytes",
                                "barkruffle_link_rows: rows of more bytes than 32 bits tell"},
-    [ROWS_SCRATCH_IN_32_BITS] = {"link with rows takes the low 32 bits of the scratch's length",
-                                 "barkruffle_link_rows: a scratch past 32 bits"},
+    [FIND_COUNT_IN_32_BITS] = {"the search takes the low 32 bits of the rows' count",
+                               "barkruffle_find_symbol: a count past 32 bits"},
 };
 
 static enum wrong wrong;
@@ -279,105 +268,86 @@ uint32_t __wrap_barkruffle_link(LINK_PARAMETERS)
         const uint8_t *instructions, size_t instructions_len, const uint8_t *func_info, size_t func_info_len,              \
         const uint8_t *line_info, size_t line_info_len, uint32_t root, uint8_t *image, size_t image_len,                   \
         uint8_t *image_func_info, size_t image_func_info_len, uint8_t *image_line_info, size_t image_line_info_len,        \
-        uint8_t *places, size_t places_len, uint8_t *scratch, size_t scratch_len
+        uint8_t *places, size_t places_len
 
 uint32_t __real_barkruffle_link_rows(ROWS_PARAMETERS);
 uint32_t __wrap_barkruffle_link_rows(ROWS_PARAMETERS);
 
-static size_t needed(size_t count) { return 24 * (count < 1025 ? count : 1025); }
-
-static uint32_t refused_short(const struct outputs *o, uint8_t *places, size_t places_len)
+/* How many rows it looks at. */
+static size_t rows_seen(size_t count)
 {
-    if (places_len)
-        memset(places, 0, places_len);
-    return refused(o, BARKRUFFLE_SHORT_SCRATCH);
+    if (wrong == ROWS_COUNT_IN_32_BITS)
+        return (uint32_t)count;
+    if (wrong == ROWS_BYTES_IN_32_BITS)
+        return (uint32_t)(24 * count) / 24;
+    if (wrong == ROWS_LIMIT_UNSEEN && count > 1024)
+        return 1024;
+    return count - (wrong == ROWS_LAST_UNSEEN && count && count <= 1024);
 }
 
-/* Whether a scratch is refused that is long enough. */
-static int wants_more(size_t count, size_t scratch_len)
-{
-    return (wrong == ROWS_EXACT_REFUSED && count && scratch_len == needed(count)) ||
-           (wrong == ROWS_ALL_WANTED && scratch_len < 24 * count) ||
-           (wrong == ROWS_SCRATCH_IN_32_BITS && (uint32_t)scratch_len < needed(count));
-}
-
-/* Whether a short scratch is taken for one that is long enough. */
-static int wants_less(size_t count, size_t scratch_len)
-{
-    return (wrong == ROWS_SHORT_ACCEPTED && scratch_len + 1 == needed(count)) ||
-           (wrong == ROWS_SHORT_LAST && count > 1024 && scratch_len < needed(count)) ||
-           (wrong == ROWS_BYTES_IN_32_BITS && scratch_len < needed(count) && scratch_len >= (uint32_t)(24 * count));
-}
-
-/* What a link with rows reads or writes where it may not. */
-static void stray_rows(const struct barkruffle_symbol *symbols, size_t count, uint8_t *scratch, size_t scratch_len)
+/* What it reads or writes where it may not. */
+static void stray_rows(const struct barkruffle_symbol *symbols, size_t count)
 {
     if (wrong == ROWS_READ_PAST && count)
         sink = ((const volatile struct barkruffle_symbol *)symbols)[count].kind;
     if (wrong == ROWS_STORED && count)
         *(volatile uint32_t *)(uintptr_t)&symbols->index = symbols->index;
-    uintptr_t start = (uintptr_t)symbols, end = start + 24 * count, from = (uintptr_t)scratch, to = from + scratch_len;
-    if (wrong == ROWS_GAP_BEFORE && to < start && start - to < 8)
-        scratch[scratch_len] = 0;
-    if (wrong == ROWS_GAP_AFTER && end < from && from - end < 8)
-        scratch[-1] = 0;
-    if (wrong == ROWS_PAST_SCRATCH && scratch_len && starts_a_page(scratch))
-        scratch[scratch_len] = 0;
-    if (wrong == ROWS_BEFORE_SCRATCH && scratch_len && !starts_a_page(scratch))
-        scratch[-1] = 0;
 }
 
-/* What it leaves, where 32 is not told. */
-static void misleft_rows(uint32_t n, const struct outputs *o, const uint8_t *symbols, size_t count, uint8_t *scratch,
-                         size_t scratch_len, uint8_t *places, size_t places_len)
+static void misleft_rows(uint32_t n, const struct outputs *o, uint8_t *places, size_t places_len)
 {
     size_t used = n == 0 && places_len >= 4 ? 8 * (size_t)u32_at(places) : 0;
-    if (wrong == ROWS_AFTER_ROWS && scratch_len > needed(count))
-        scratch[needed(count)] ^= 1;
-    if (wrong == ROWS_NEIGHBOUR_OTHER && count && symbols == scratch + scratch_len)
-        scratch[0] ^= 1;
     if (wrong == ROWS_ONE_SLOT_MORE && n == 0)
         add_to_place(places, places_len, 1);
     if (wrong == ROWS_ONE_OFF && used)
         o->at[0][used - 4] ^= 1;
-}
-
-/* What it leaves, where 32 is told. */
-static void misleft_short(const struct outputs *o, uint8_t *scratch, size_t scratch_len, uint8_t *places, size_t places_len)
-{
-    if (wrong == ROWS_LEAVE_A_BYTE && o->len[1])
+    if (wrong == ROWS_LEAVE_A_BYTE && n && o->len[1])
         o->at[1][o->len[1] - 1] = 1;
-    if (wrong == ROWS_SHORT_WRITTEN && scratch_len)
-        scratch[0] ^= 1;
-    if (wrong == ROWS_SHORT_PLACE)
-        add_to_place(places, places_len, 1);
 }
 
 uint32_t __wrap_barkruffle_link_rows(ROWS_PARAMETERS)
 {
-    static uint8_t room[BARKRUFFLE_SCRATCH];
     struct outputs o = {{image, image_func_info, image_line_info}, {image_len, image_func_info_len, image_line_info_len}};
-    const uint8_t *rows = (const void *)symbols;
-    size_t count = wrong == ROWS_COUNT_IN_32_BITS ? (uint32_t)symbols_count : symbols_count;
-    int enough = scratch_len >= needed(count), less = wants_less(count, scratch_len);
-    int unseen = (wrong == ROWS_ONE_LESS || wrong == ROWS_LAST_UNSEEN) && enough && count && count <= 1024;
-    if (wants_more(count, scratch_len))
-        return refused_short(&o, places, places_len);
-    uint32_t n = __real_barkruffle_link_rows(code, code_len, symbols, count - (size_t)unseen, functions, functions_len,
+    uint32_t n = __real_barkruffle_link_rows(code, code_len, symbols, rows_seen(symbols_count), functions, functions_len,
                                              relocations, relocations_len, instructions, instructions_len, func_info,
                                              func_info_len, line_info, line_info_len, root, image, image_len, image_func_info,
-                                             image_func_info_len, image_line_info, image_line_info_len, places, places_len,
-                                             less ? room : scratch, less ? sizeof room : scratch_len);
-    if (wrong == ROWS_LAST_UNSEEN && unseen)
-        memcpy(scratch + 24 * (count - 1), rows + 24 * (count - 1), 24);
-    stray_rows(symbols, count, scratch, scratch_len);
-    if (n == BARKRUFFLE_SHORT_SCRATCH)
-        misleft_short(&o, scratch, scratch_len, places, places_len);
-    else
-        misleft_rows(n, &o, rows, count, scratch, scratch_len, places, places_len);
-    if (wrong == ROWS_THIRTY_THREE && n == BARKRUFFLE_SHORT_SCRATCH)
-        return 33;
+                                             image_func_info_len, image_line_info, image_line_info_len, places, places_len);
+    if (wrong == ROWS_NEIGHBOUR_OTHER && n == 0 && image == line_info + line_info_len)
+        image[0] ^= 1;
+    stray_rows(symbols, symbols_count);
+    misleft_rows(n, &o, places, places_len);
+    if (wrong == ROWS_FOURTEEN && n == 1)
+        return 14;
     return wrong == ROWS_NINE_FOR_EIGHT && n == 8 ? 9 : n;
+}
+
+/* ---- a symbol by index */
+
+uint64_t __real_barkruffle_find_symbol(const struct barkruffle_symbol *symbols, size_t count, uint32_t index);
+uint64_t __wrap_barkruffle_find_symbol(const struct barkruffle_symbol *symbols, size_t count, uint32_t index);
+
+static size_t rows_searched(size_t count)
+{
+    if (wrong == FIND_COUNT_IN_32_BITS)
+        return (uint32_t)count;
+    return count - (wrong == FIND_LAST_UNSEEN && count);
+}
+
+uint64_t __wrap_barkruffle_find_symbol(const struct barkruffle_symbol *symbols, size_t count, uint32_t index)
+{
+    uint64_t row = __real_barkruffle_find_symbol(symbols, rows_searched(count), index);
+    if (wrong == FIND_READS_PAST && count)
+        sink = ((const volatile struct barkruffle_symbol *)symbols)[count].kind;
+    if (wrong == FIND_STORES && count)
+        *(volatile uint32_t *)(uintptr_t)&symbols->index = symbols->index;
+    if (row == BARKRUFFLE_NONE)
+        return wrong == FIND_NONE_IS_COUNT ? count : wrong == FIND_NONE_IN_32_BITS ? UINT32_MAX : row;
+    if (wrong == FIND_INDEX)
+        return index;
+    for (size_t k = count; wrong == FIND_LAST && k > row; k--)
+        if (symbols[k - 1].index == index)
+            return k - 1;
+    return row + (wrong == FIND_PAGE_OTHER && starts_a_page((const uint8_t *)symbols));
 }
 
 /* ---- the readers */

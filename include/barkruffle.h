@@ -16,8 +16,9 @@
  * It is written on every answer. What the numbers say stands with each answer below.
  *
  * Stack. A link recurses once for each function that it appends, 64 at most. The deepest, a chain of 64 functions
- * that ends in a call of the root, was measured at 103,928 bytes, with rows at 103,992; give a thread that links 128 KiB
- * beside its own. No other function here recurses. tests/stack.c measures it, and fails past 128 KiB.
+ * that ends in a call of the root, was measured at 103,928 bytes; give a thread that links 128 KiB beside its own. A link
+ * with rows lays them into a table of its own, 24,600 bytes of the stack, and was measured at 128,568: give it 160 KiB.
+ * No other function here recurses. tests/stack.c measures both, and fails past 128 and 160 KiB.
  *
  * The tables, by number, with the bytes of a row and the most rows:
  *   1 code sections       4    64   number u32; strictly rising
@@ -78,9 +79,7 @@ enum barkruffle_number {
     /* The root is no row of table 3: 0, 0. */
     BARKRUFFLE_NO_ROOT = 13,
     /* Broken info data, or no record k: 0, 0. */
-    BARKRUFFLE_BROKEN_INFO = 14,
-    /* barkruffle_link_rows alone: the scratch is too short for the rows: 0, 0. It is told before every other number. */
-    BARKRUFFLE_SHORT_SCRATCH = 32
+    BARKRUFFLE_BROKEN_INFO = 14
 };
 
 /* The length of a place buffer that holds all three numbers. */
@@ -135,16 +134,8 @@ struct barkruffle_symbol {
     uint8_t padding[7];
 };
 
-/* The length of a scratch that always suffices: one row more than table 2 may have. */
-#define BARKRUFFLE_SCRATCH (1025 * 24)
-
-/* barkruffle_link with table 2 lent as rows: `symbols_count` is a count of rows, not of bytes. The rows are laid into
- * `scratch` and linked from there, so answers, places and outputs are those of barkruffle_link over the rows' bytes.
- *
- * Answers: those of barkruffle_link, and 32 before all of them if `scratch_len` is below 24 * symbols_count, or below
- * BARKRUFFLE_SCRATCH where there are more than 1025 rows. On 32 all three outputs are zero from end to end, and
- * `scratch` is as it was. On any other answer `scratch` starts with the rows' bytes, 1025 rows at most, and is as it was
- * after them. It is lent to be written, and may not overlap the rows or any other buffer. */
+/* barkruffle_link with table 2 lent as rows: `symbols_count` is a count of rows, not of bytes. Answers, places and outputs
+ * are those of barkruffle_link over the rows' bytes, on every input. */
 uint32_t barkruffle_link_rows(
     const uint8_t *code, size_t code_len,
     const struct barkruffle_symbol *symbols, size_t symbols_count,
@@ -157,8 +148,16 @@ uint32_t barkruffle_link_rows(
     uint8_t *image, size_t image_len,
     uint8_t *image_func_info, size_t image_func_info_len,
     uint8_t *image_line_info, size_t image_line_info_len,
-    uint8_t *places, size_t places_len,
-    uint8_t *scratch, size_t scratch_len);
+    uint8_t *places, size_t places_len);
+
+/* No row. A row of rows that can be lent never has this number. */
+#define BARKRUFFLE_NONE UINT64_MAX
+
+/* The row of table 2, lent as rows, that has the index, counted from 0; the first one if several have it, and
+ * BARKRUFFLE_NONE if none has. The rows are not checked: they may be broken, in any order and of any number. */
+uint64_t barkruffle_find_symbol(
+    const struct barkruffle_symbol *symbols, size_t symbols_count,
+    uint32_t index);
 
 /* Read `count` records of `size` bytes each from `bytes` into rows of table 7 (struct bpf_func_info) or of table 8
  * (struct bpf_line_info): the byte offset that a record starts with becomes a slot, and what a record has past a

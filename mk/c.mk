@@ -16,7 +16,7 @@ $(C_OUT)/%: %.c tests/tables.h include/barkruffle.h lib
 
 test-c: $(C_OUT)/tests/abi $(C_OUT)/tests/stack $(C_OUT)/examples/daemon
 	nm -g --defined-only $(ARCHIVE) | sed -n 's/.* T //p' | sort > $(C_OUT)/exported
-	sed -n 's/^\(uint32_t\|struct barkruffle_part\) \(barkruffle_[a-z_]*\)($$/\2/p' include/barkruffle.h | sort > $(C_OUT)/declared
+	sed -n 's/^\(uint32_t\|uint64_t\|struct barkruffle_part\) \(barkruffle_[a-z_]*\)($$/\2/p' include/barkruffle.h | sort > $(C_OUT)/declared
 	diff $(C_OUT)/declared $(C_OUT)/exported
 	while read f; do grep -qw $$f tests/abi.c || { echo "test-c: tests/abi.c does not call $$f"; exit 1; }; done < $(C_OUT)/declared
 	$(C_OUT)/tests/abi

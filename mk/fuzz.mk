@@ -15,7 +15,7 @@ CFLAGS_FUZZ = -std=c11 -O2 -g -Wall -Wextra -Werror -Iinclude
 # clang does not define that name by itself; it turns on the counters by which the fuzzer sees answers and places.
 SANITIZERS = -DFUZZING_BUILD_MODE_UNSAFE_FOR_PRODUCTION -fsanitize=fuzzer,address,undefined -fno-sanitize-recover=undefined
 OPEN = (
-FUZZ_ENTRIES := $(shell sed -n 's/^\(uint32_t\|struct barkruffle_part\) \(barkruffle_[a-z_]*\)$(OPEN)$$/\2/p' include/barkruffle.h)
+FUZZ_ENTRIES := $(shell sed -n 's/^\(uint32_t\|uint64_t\|struct barkruffle_part\) \(barkruffle_[a-z_]*\)$(OPEN)$$/\2/p' include/barkruffle.h)
 
 .PHONY: fuzz test-fuzz fuzz-bites fuzz-reached fuzz-named fuzz-tools
 

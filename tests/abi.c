@@ -49,56 +49,30 @@ static void same_places(const char *what, const uint8_t *p, size_t room, uint32_
 static uint8_t image[BARKRUFFLE_IMAGE + 8], funcs[BARKRUFFLE_IMAGE_FUNC_INFO + 8], lines[BARKRUFFLE_IMAGE_LINE_INFO + 16];
 static uint8_t places[32];
 
-/* What barkruffle_link left in the buffers above is held to what barkruffle_link_rows gives over the same rows, with a
- * scratch of `scratch_n` bytes. Table 2 is copied as it is: C's layout of a row is its bytes. */
+/* What barkruffle_link left in the buffers above is held to what barkruffle_link_rows gives over the same rows. Table 2 is
+ * copied as it is: C's layout of a row is its bytes. */
 static struct barkruffle_symbol rows[(1 << 17) / 24];
 static uint8_t row_image[sizeof image], row_funcs[sizeof funcs], row_lines[sizeof lines], row_places[32];
-static uint8_t scratch[1 << 17];
-
-static uint32_t link_rows(struct object *o, size_t count, uint32_t root, size_t image_n, size_t funcs_n, size_t lines_n,
-                          size_t room, size_t scratch_n)
-{
-    memset(row_image, 0xaa, sizeof row_image);
-    memset(row_funcs, 0xaa, sizeof row_funcs);
-    memset(row_lines, 0xaa, sizeof row_lines);
-    memset(row_places, 0xee, sizeof row_places);
-    memset(scratch, 0xbb, sizeof scratch);
-    memcpy(rows, o->symbols.bytes, count * sizeof *rows);
-    uint32_t r = barkruffle_link_rows(LENT(o->code), rows, count, LENT(o->functions), LENT(o->relocations),
-                                      LENT(o->instructions), LENT(o->func_info), LENT(o->line_info), root, row_image,
-                                      image_n, row_funcs, funcs_n, row_lines, lines_n, row_places, room, scratch, scratch_n);
-    same_bytes("the rows", (const uint8_t *)rows, o->symbols.bytes, count * sizeof *rows);
-    return r;
-}
 
 static void same_with_rows(struct object *o, uint32_t number, uint32_t root, size_t image_n, size_t funcs_n, size_t lines_n,
                            size_t room)
 {
+    size_t count = o->symbols.len / sizeof *rows;
     if (o->symbols.len % sizeof *rows)
         return; /* a slice of rows has no partial row */
-    size_t count = o->symbols.len / sizeof *rows, laid = count < 1025 ? count : 1025;
-    same("with rows", link_rows(o, count, root, image_n, funcs_n, lines_n, room, 24 * laid), number);
+    memset(row_image, 0xaa, sizeof row_image);
+    memset(row_funcs, 0xaa, sizeof row_funcs);
+    memset(row_lines, 0xaa, sizeof row_lines);
+    memset(row_places, 0xee, sizeof row_places);
+    memcpy(rows, o->symbols.bytes, count * sizeof *rows);
+    same("with rows", barkruffle_link_rows(LENT(o->code), rows, count, LENT(o->functions), LENT(o->relocations),
+                                           LENT(o->instructions), LENT(o->func_info), LENT(o->line_info), root, row_image,
+                                           image_n, row_funcs, funcs_n, row_lines, lines_n, row_places, room), number);
+    same_bytes("with rows: the rows", (const uint8_t *)rows, o->symbols.bytes, count * sizeof *rows);
     same_bytes("with rows: image", row_image, image, sizeof image);
     same_bytes("with rows: function records", row_funcs, funcs, sizeof funcs);
     same_bytes("with rows: line records", row_lines, lines, sizeof lines);
     same_bytes("with rows: places", row_places, places, sizeof places);
-    same_bytes("scratch", scratch, o->symbols.bytes, 24 * laid);
-    all("past the scratch", scratch + 24 * laid, 0xbb, sizeof scratch - 24 * laid);
-    same("with more scratch", link_rows(o, count, root, image_n, funcs_n, lines_n, room, 24 * laid + 100), number);
-    same_bytes("with more scratch: image", row_image, image, sizeof image);
-    all("after the rows", scratch + 24 * laid, 0xbb, sizeof scratch - 24 * laid);
-    size_t too_short[] = {0, 1, 24 * laid - 24, 24 * laid - 1};
-    for (size_t i = 0; laid && i < sizeof too_short / sizeof *too_short; i++) {
-        if (too_short[i] >= 24 * laid)
-            continue;
-        same("short scratch", link_rows(o, count, root, image_n, funcs_n, lines_n, room, too_short[i]), BARKRUFFLE_SHORT_SCRATCH);
-        same_places("short scratch", row_places, room, 0, 0, 0);
-        all("short scratch: image", row_image, 0, image_n);
-        all("short scratch: function records", row_funcs, 0, funcs_n);
-        all("short scratch: line records", row_lines, 0, lines_n);
-        all("short scratch: past the image", row_image + image_n, 0xaa, sizeof row_image - image_n);
-        all("short scratch: scratch", scratch, 0xbb, sizeof scratch);
-    }
 }
 
 static uint32_t link_in(struct object *o, uint32_t root, size_t image_n, size_t funcs_n, size_t lines_n, size_t room)
@@ -429,22 +403,58 @@ static void symbol_rows(void)
         symbol(&o->symbols, k, NONE, 0, 0);
     same("5000 rows", link_in(o, 0, 64, 0, 0, 12), BARKRUFFLE_TOO_MANY_ROWS);
     same_places("5000 rows", places, 12, 2, 0, 0);
-    same("the scratch that suffices", BARKRUFFLE_SCRATCH, 1025 * 24);
-    /* table 1 comes first, a short scratch before it */
+    /* table 1 comes first */
     o->code.len = 65 * 4;
     same("table 1 too", link_in(o, 0, 64, 0, 0, 12), BARKRUFFLE_TOO_MANY_ROWS);
     same_places("table 1 too", places, 12, 1, 0, 0);
-    same("table 1 too, scratch enough", link_rows(o, 5000, 0, 64, 0, 0, 12, BARKRUFFLE_SCRATCH), BARKRUFFLE_TOO_MANY_ROWS);
-    same_places("table 1 too, scratch enough", row_places, 12, 1, 0, 0);
     same("no rows, nothing lent", barkruffle_link_rows(NULL, 0, NULL, 0, NULL, 0, NULL, 0, NULL, 0, NULL, 0, NULL, 0, 0,
-                                                       NULL, 0, NULL, 0, NULL, 0, NULL, 0, NULL, 0), BARKRUFFLE_NO_ROOT);
+                                                       NULL, 0, NULL, 0, NULL, 0, NULL, 0), BARKRUFFLE_NO_ROOT);
     free(o);
+}
+
+/* The row with an index, by table 2's bytes. */
+static uint64_t row_with(const struct table *t, uint32_t index)
+{
+    for (size_t k = 0; k < t->len / sizeof *rows; k++)
+        if (number_at(t->bytes + k * sizeof *rows, 0) == index)
+            return k;
+    return BARKRUFFLE_NONE;
+}
+
+static void same_row(const struct table *t, uint32_t index)
+{
+    size_t count = t->len / sizeof *rows;
+    memcpy(rows, t->bytes, count * sizeof *rows);
+    same("the row with an index", (long)barkruffle_find_symbol(rows, count, index), (long)row_with(t, index));
+}
+
+/* A symbol by index: rising rows, rows out of order and doubled, past the limit, and none. */
+static void find_rows(void)
+{
+    static const uint32_t indices[] = {7, 3, 7, 0, 0xffffffffu, 0x01000000, 1, 3};
+    static struct table t;
+    same("no rows", barkruffle_find_symbol(NULL, 0, 0) == BARKRUFFLE_NONE, 1);
+    for (size_t i = 0; i < sizeof indices / sizeof *indices; i++) {
+        symbol(&t, indices[i], 5, 6, 9);
+        for (size_t k = 0; k < sizeof indices / sizeof *indices; k++)
+            same_row(&t, indices[k]);
+        same_row(&t, 5);
+        same_row(&t, 6);
+    }
+    same("the first of two", (long)barkruffle_find_symbol(rows, 8, 3), 1);
+    same("all ones as an index", (long)barkruffle_find_symbol(rows, 8, 0xffffffffu), 4);
+    t.len = 0;
+    for (uint32_t k = 0; k < 5000; k++)
+        symbol(&t, 3 * k, NONE, 0, 0);
+    for (uint32_t index = 0; index < 15010; index += 7)
+        same_row(&t, index);
 }
 
 int main(void)
 {
     own_call();
     symbol_rows();
+    find_rows();
     depth_first();
     nothing_lent();
     records(barkruffle_func_info, barkruffle_func_info_record, barkruffle_func_info_record_number, 8, 8);

@@ -7,11 +7,11 @@
 
 #define STACK (8u << 20)
 #define SAID (128u << 10)
+#define SAID_ROWS (160u << 10)
 
 static uint8_t image[BARKRUFFLE_IMAGE], funcs[BARKRUFFLE_IMAGE_FUNC_INFO], lines[BARKRUFFLE_IMAGE_LINE_INFO];
 static uint8_t places[BARKRUFFLE_PLACES];
 static struct barkruffle_symbol rows[1024];
-static uint8_t scratch[BARKRUFFLE_SCRATCH];
 static struct object *o;
 static uint32_t result;
 
@@ -29,7 +29,7 @@ static void *link_chain_rows(void *unused)
 {
     result = barkruffle_link_rows(LENT(o->code), rows, 1024, LENT(o->functions), LENT(o->relocations),
                                   LENT(o->instructions), LENT(o->func_info), LENT(o->line_info), 0, image, sizeof image,
-                                  funcs, sizeof funcs, lines, sizeof lines, places, sizeof places, scratch, sizeof scratch);
+                                  funcs, sizeof funcs, lines, sizeof lines, places, sizeof places);
     return unused;
 }
 
@@ -51,7 +51,7 @@ static size_t depth_of(void *(*run)(void *), uint8_t *stack)
     return STACK - k;
 }
 
-static int fails(const char *what, void *(*run)(void *), uint8_t *stack)
+static int fails(const char *what, void *(*run)(void *), size_t said, uint8_t *stack)
 {
     size_t before = depth_of(idle, stack), with = depth_of(run, stack);
     if (result != BARKRUFFLE_DONE || number_at(places, 0) != 130) {
@@ -59,9 +59,9 @@ static int fails(const char *what, void *(*run)(void *), uint8_t *stack)
         return 1;
     }
     printf("stack: %s: %zu bytes over a thread that does nothing\n", what, with - before);
-    if (with - before > SAID)
-        printf("stack: the header says at most %u\n", (unsigned)SAID);
-    return with - before > SAID;
+    if (with - before > said)
+        printf("stack: the header says at most %zu\n", said);
+    return with - before > said;
 }
 
 int main(void)
@@ -84,7 +84,7 @@ int main(void)
         rows[k].index = k;
         rows[k].section = NONE;
     }
-    int bad = fails("link", link_chain, stack) | fails("link with rows", link_chain_rows, stack);
+    int bad = fails("link", link_chain, SAID, stack) | fails("link with rows", link_chain_rows, SAID_ROWS, stack);
     free(o);
     free(stack);
     return bad;

@@ -6,6 +6,7 @@ mod domain;
 mod generate;
 mod literal;
 mod ours;
+mod reader_vectors;
 mod readers;
 mod report;
 mod rng;
@@ -157,7 +158,13 @@ fn main() -> ExitCode {
             ExitCode::SUCCESS
         }
         Some("--definition") => {
-            definition::write(Path::new(args.get(1).expect("--definition FILE")), seed, value("--per-sort", 1) as usize);
+            let file = Path::new(args.get(1).expect("--definition FILE"));
+            definition::write(file, seed, value("--per-sort", 1) as usize);
+            reader_vectors::write(&file.with_file_name("ReaderVectors.antt"), seed);
+            ExitCode::SUCCESS
+        }
+        Some("--reader-vectors") => {
+            reader_vectors::write(Path::new(args.get(1).expect("--reader-vectors FILE")), seed);
             ExitCode::SUCCESS
         }
         _ => run(objects, seed, args.iter().any(|a| a == "--brief")),

@@ -1,5 +1,5 @@
 //! The record readers beside the crate's `parse`, and the encoded bytes beside its `func_info_bytes` and `line_info_bytes`.
-use aya_obj::way_in;
+use aya_obj::way_in::{self, Endianness};
 
 use crate::{both::Bite, literal, ours::Info, rng::Rng, theirs::caught};
 
@@ -46,7 +46,7 @@ pub fn input(rng: &mut Rng) -> Input {
 }
 
 impl Input {
-    fn row(&self) -> u32 {
+    pub fn row(&self) -> u32 {
         if self.line { 16 } else { 8 }
     }
 }
@@ -71,15 +71,15 @@ pub fn cause(i: &Input) -> (usize, u32) {
 }
 
 /// What the crate reads: records, encoded bytes, `num_info`; none where it panics.
-pub fn crate_reads(i: &Input) -> Option<(Vec<Vec<u32>>, Vec<u8>, u32)> {
+pub fn crate_reads(i: &Input, order: Endianness) -> Option<(Vec<Vec<u32>>, Vec<u8>, u32)> {
     caught(|| {
         if i.line {
-            let read = way_in::parse_line_info(i.count, i.size as usize, &i.data);
+            let read = way_in::parse_line_info(i.count, i.size as usize, &i.data, order);
             assert_eq!(read.len(), read.line_info.len());
             let rows = read.line_info.iter().map(|r| vec![r.insn_off, r.file_name_off, r.line_off, r.line_col]).collect();
             (rows, read.line_info_bytes(), read.num_info)
         } else {
-            let read = way_in::parse_func_info(i.count, i.size as usize, &i.data);
+            let read = way_in::parse_func_info(i.count, i.size as usize, &i.data, order);
             let rows = read.func_info.iter().map(|r| vec![r.insn_off, r.type_id]).collect();
             (rows, read.func_info_bytes(), read.num_info)
         }
@@ -104,7 +104,7 @@ pub fn run(i: &Input, k: u32, bite: Option<Bite>) -> Read {
     if bite == Some(Bite::Reader) && number == 0 && i.count > 0 {
         out[0] ^= 1;
     }
-    let theirs = crate_reads(i);
+    let theirs = crate_reads(i, Endianness::Little);
     let mut read = Read { cause, number, wrong: None, differs: None, panicked: theirs.is_none() };
     if (number, places, &out) != (said.0, said.1, &said.2) {
         read.wrong = Some(format!("gave {number} {places:?}, not {} {:?}, or other bytes", said.0, said.1));

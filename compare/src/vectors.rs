@@ -2,6 +2,8 @@
 //! Every number, count and checksum of a line comes from the crate, or is fixed by document 01 where the crate has refused.
 use std::{fs, path::Path};
 
+use aya_obj::way_in::Endianness;
+
 use crate::{
     both::Both,
     readers::{self, Input},
@@ -70,7 +72,7 @@ impl Cases {
     }
 
     fn read(&mut self, i: &Input) {
-        let (_, bytes, num) = readers::crate_reads(i).expect("the crate reads it");
+        let (_, bytes, num) = readers::crate_reads(i, Endianness::Little).expect("the crate reads it");
         let words = [0; 9].into_iter().chain([i.size, i.count, i.data.len() as u32, i.room as u32, 0, 0]).collect();
         self.add(if i.line { 4 } else { 3 }, words, &i.data, 0, &[num, 0, 0], &[checksum(&padded(&bytes, i.room))]);
     }

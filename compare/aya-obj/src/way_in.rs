@@ -1,8 +1,8 @@
 //! What the two files keep to their crate, opened for `compare`: rows in, an object to run, causes out.
 use std::error::Error as _;
 
-pub use object::SymbolKind;
-use object::{Endianness, SectionIndex};
+use object::SectionIndex;
+pub use object::{Endianness, SymbolKind};
 
 use crate::{
     btf::info::{FuncSecInfo, LineSecInfo},
@@ -47,10 +47,10 @@ pub fn cause(error: &EbpfRelocationError) -> &RelocationError {
     error.source().and_then(|e| e.downcast_ref()).expect("the error has its source")
 }
 
-pub fn parse_func_info(num_info: u32, rec_size: usize, data: &[u8]) -> FuncSecInfo {
-    FuncSecInfo::parse(0, num_info, rec_size, data, Endianness::Little)
+pub fn parse_func_info(num_info: u32, rec_size: usize, data: &[u8], endianness: Endianness) -> FuncSecInfo {
+    FuncSecInfo::parse(0, num_info, rec_size, data, endianness)
 }
 
-pub fn parse_line_info(num_info: u32, rec_size: usize, data: &[u8]) -> LineSecInfo {
-    LineSecInfo::parse(0, num_info, rec_size, data, Endianness::Little)
+pub fn parse_line_info(num_info: u32, rec_size: usize, data: &[u8], endianness: Endianness) -> LineSecInfo {
+    LineSecInfo::parse(0, num_info, rec_size, data, endianness)
 }

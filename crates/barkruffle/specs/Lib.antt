@@ -1,2 +1,2 @@
 pub mod Promises
-pub mod LinkRows
+pub mod LentRows

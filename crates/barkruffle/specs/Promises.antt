@@ -18,11 +18,6 @@ pub record LinkTold (before after : List ℕ) (b : Buffers) (result : ℕ) (link
   pub funcs : b .funcs ≡ link .funcInfo
   pub lines : b .lines ≡ link .lineInfo
 
--- a link with a scratch: what the scratch then holds too
-pub record RowsTold (before after : List ℕ) (b : Buffers) (result : ℕ) (link : LinkResult) (scratch laid : List ℕ) : Type 0 where
-  pub link-told : LinkTold before after b result link
-  pub scratch-is : scratch ≡ laid
-
 pub record MapTold (before after table6 : List ℕ) (result : ℕ) (map : MapResult) : Type 0 where
   pub told : Told before after result (map .reply)
   pub instructions : table6 ≡ map .instructions

@@ -8,26 +8,29 @@ use info::line_info_record_number;
 use linker::link;
 use maps::relocate_maps;
 use rules::Answer;
+use rules::Found;
 use rules::limits::SYMBOL_SIZE;
+use symbols::ROWS_ROOM;
 use symbols::Symbol;
+use symbols::find_rows;
 use symbols::lay_rows;
-use symbols::rows_needed;
-use wire::put_places;
-use wire::wipe;
 ghost use mathlib.Core.Path.{_≡_};
+ghost use Prim.Native.Nat.{_*_, _≤_};
 ghost use lib.Dec.{eqb};
 ghost use lib.ListN.{length, take};
-ghost use Rattle.rules.specs.declared.Table.the-variants.{FuncInfo, LineInfo};
+ghost use Rattle.rules.specs.declared.Table.the-variants.{Symbols, FuncInfo, LineInfo};
 ghost use Rattle.rules.specs.Bytes.{little};
 ghost use Rattle.rules.specs.Answers.{replyOf};
+ghost use Rattle.rules.specs.Rows.{rowSize};
+ghost use Rattle.rules.specs.Lookups.{symbolWith};
 ghost use Rattle.rules.specs.Lent.{was, lent, lentMaps, outputs, lentOutputs, lentBy};
 ghost use Rattle.rules.specs.Entries.{linkEntry, mapEntry};
 ghost use Rattle.rules.specs.Readers.{readRecords, recordReply};
 ghost use Rattle.answers.specs.Told.{Told};
 ghost use Rattle.info.specs.Promises.{given};
-ghost use Rattle.symbols.specs.Symbols.{bytesOf, bytesNeeded, laidIn};
-ghost use Rattle.barkruffle.specs.Promises.{LinkTold, MapTold, ReadTold, Placed, Stands, RowsTold};
-ghost use Rattle.barkruffle.specs.LinkRows.{lentWith, linkRowsEntry};
+ghost use Rattle.symbols.specs.Symbols.{bytesOf};
+ghost use Rattle.barkruffle.specs.Promises.{LinkTold, MapTold, ReadTold, Placed, Stands};
+ghost use Rattle.barkruffle.specs.LentRows.{lentWith, numberFound, RowTold};
 
 // Rewrites table 6 in place, only once nothing is refused.
 #[no_mangle]
@@ -96,13 +99,11 @@ pub extern "C" fn barkruffle_link(
     tell(a, places)
 }
 
-// A scratch that is too short for the rows: no number of document 01 or 02.
-const SHORT_SCRATCH: u32 = 32;
-
-// The link over the rows that were laid into the scratch, of so many that were lent.
+// The link over the first rows of a byte table, so many.
 fn link_laid(
-    code: &[u8],
+    table: &[u8],
     count: usize,
+    code: &[u8],
     functions: &[u8],
     relocations: &[u8],
     instructions: &[u8],
@@ -113,34 +114,24 @@ fn link_laid(
     image_func_info: &mut [u8],
     image_line_info: &mut [u8],
     places: &mut [u8],
-    scratch: &mut [u8],
 ) -> u32
-    ensures { λ r. ⌜ RowsTold
+    requires { ⌜ rowSize Symbols * count ≤ length (now table) ⌝ }
+    ensures { λ r. ⌜ LinkTold
         (was places)
         (now (places .exit))
         (outputs (image .exit) («image_func_info» .exit) («image_line_info» .exit))
         r
-        (linkRowsEntry
-        count
-        (length (was scratch))
-        (lentWith code (take (bytesNeeded count) (was scratch)) functions relocations instructions «func_info» «line_info»)
+        (linkEntry
+        little
+        (lentWith code (take (rowSize Symbols * count) (was table)) functions relocations instructions «func_info» «line_info»)
         root
         (lentBy (lentOutputs image «image_func_info» «image_line_info»)))
-        (now (scratch .exit))
-        (was scratch)
         ⌝ }
 {
-    let end = SYMBOL_SIZE * rows_needed(count);
-    if scratch.len() < end {
-        wipe(image);
-        wipe(image_func_info);
-        wipe(image_line_info);
-        put_places(places, 0, 0, 0);
-        return SHORT_SCRATCH;
-    }
+    let end = SYMBOL_SIZE * count;
     barkruffle_link(
         code,
-        &scratch[..end],
+        &table[..end],
         functions,
         relocations,
         instructions,
@@ -154,7 +145,7 @@ fn link_laid(
     )
 }
 
-// The link with table 2 lent as rows. They are laid into the scratch, and linked from there.
+// The link with table 2 lent as rows. They are laid into a table of its own, and linked from there.
 #[no_mangle]
 pub extern "C" fn barkruffle_link_rows(
     code: &[u8],
@@ -169,27 +160,25 @@ pub extern "C" fn barkruffle_link_rows(
     image_func_info: &mut [u8],
     image_line_info: &mut [u8],
     places: &mut [u8],
-    scratch: &mut [u8],
 ) -> u32
-    ensures { λ r. ⌜ RowsTold
+    ensures { λ r. ⌜ LinkTold
         (was places)
         (now (places .exit))
         (outputs (image .exit) («image_func_info» .exit) («image_line_info» .exit))
         r
-        (linkRowsEntry
-        (length (was symbols))
-        (length (was scratch))
+        (linkEntry
+        little
         (lentWith code (bytesOf (was symbols)) functions relocations instructions «func_info» «line_info»)
         root
         (lentBy (lentOutputs image «image_func_info» «image_line_info»)))
-        (now (scratch .exit))
-        (laidIn (was symbols) (was scratch))
         ⌝ }
 {
-    lay_rows(symbols, scratch);
+    let mut table = [0u8; ROWS_ROOM];
+    let count = lay_rows(symbols, &mut table);
     link_laid(
+        &table,
+        count,
         code,
-        symbols.len(),
         functions,
         relocations,
         instructions,
@@ -200,8 +189,27 @@ pub extern "C" fn barkruffle_link_rows(
         image_func_info,
         image_line_info,
         places,
-        scratch,
     )
+}
+
+// No row of lent rows: a slice has fewer.
+const NO_ROW: u64 = 0xFFFF_FFFF_FFFF_FFFF;
+
+fn row_number(found: Found) -> u64
+    ensures { λ r. ⌜ r ≡ numberFound found ⌝ }
+{
+    match found {
+        Found::At(row) => row as u64,
+        Found::Nothing => NO_ROW,
+    }
+}
+
+// The row of lent symbols that has the index, or all ones where none has.
+#[no_mangle]
+pub extern "C" fn barkruffle_find_symbol(symbols: &[Symbol], index: u32) -> u64
+    ensures { λ r. ⌜ RowTold r (symbolWith (bytesOf (was symbols)) index) ⌝ }
+{
+    row_number(find_rows(symbols, index))
 }
 
 // Reads struct bpf_func_info records into rows of table 7.

@@ -13,13 +13,14 @@ use borrow.Author.Tests.{ne-eqb}
 use Rattle.rules.specs.Object.{Insn}
 use Rattle.rules.specs.Faithful.{blank, slotAt}
 use Rattle.rules.specs.Link.{Refusal, Outcome, linked, refuses, unfinished}
-use Rattle.rules.specs.Bytes.{Order, byteAt, decoded, encoded}
+use Rattle.rules.specs.Bytes.{Order, byteAt, decoded, encoded, padded}
 use Rattle.rules.specs.Tables.{Tables, rowOf}
 use Rattle.rules.specs.Maps as Maps
 use Rattle.rules.specs.Maps.{allTasks, firstRefusal, applied, rewriteAll, MapOutcome, mapped, unlessRefused, mapStep}
 use Rattle.rules.specs.Records.{imageFunctions, imageLines, linkStep}
+use Rattle.rules.specs.Answers.{reply}
 use Rattle.rules.specs.Rows.{tooMany, broken, brokenIn, Offered, tablesOf, linkRefusal}
-use Rattle.rules.specs.Entries.{Outputs, roomIn, byMapOutcome, unlessMapRefused, mapEntry, acceptedLink, byOutcome, unlessLinkRefused, linkEntry, refusalReply}
+use Rattle.rules.specs.Entries.{Outputs, roomIn, byMapOutcome, unlessMapRefused, mapEntry, funcInfoBytes, lineInfoBytes, byOutcome, unlessLinkRefused, linkEntry, refusalReply}
 use Rattle.rules.proofs.Rounds.{Plain, decoded-encoded, encoded-length, all-plain, decode-plain}
 use Rattle.rules.proofs.Writing.{decoded-at, decoded-length}
 use Rattle.rules.proofs.Refusing.{map-checked}
@@ -33,6 +34,7 @@ use Rattle.equality.proofs.MapsAfter.{all-kept}
 use Rattle.equality.proofs.MapsCommute.{all-length}
 use Rattle.equality.proofs.Offered.{offered-valid, offered-fds}
 use Rattle.equality.proofs.Demand2.{demand-2, demand-2-maps}
+use Rattle.equality.proofs.Records.{same-insn-bytes, same-func-bytes, same-line-bytes}
 
 -- the link's refusals 1, 2 and 13 look at table 6's length alone
 same-refusal : (o : Offered) (root : ℕ) (bytes : List ℕ) → length bytes ≡ length (o .instructions) → linkRefusal (withBytes o bytes) root ≡ linkRefusal o root
@@ -112,7 +114,12 @@ module _ (order : Order) (o : Offered) (hidden : Hidden) (lent : Outputs) (root 
     by-outcome c (linked final) compared same = inl (record {
       linker = same .linker;
       is-ok = same .is-ok;
-      written = λ i. went (acceptedLink order lent (sym (same .instructions) i) (sym (same .functions) i) (sym (same .lines) i));
+      result = byOutcome order (withInstructions tables instructions) root lent (linked final);
+      is-went = refl;
+      places = λ i. reply 0 (length (sym (same .instructions) i)) (length (sym (same .functions) i)) (length (sym (same .lines) i));
+      image = ap (padded (lent .image)) (ap (encoded order) (sym (same .instructions)) ∙ same-insn-bytes order (same .linker .instructions));
+      func-info = ap (padded (lent .funcInfo)) (ap (funcInfoBytes order) (sym (same .functions)) ∙ same-func-bytes order (same .linker .func-info));
+      line-info = ap (padded (lent .lineInfo)) (ap (lineInfoBytes order) (sym (same .lines)) ∙ same-line-bytes order (same .linker .line-info));
       func-num = same .func-num ∙ sym (ap length (same .functions));
       line-num = same .line-num ∙ sym (ap length (same .lines));
     })

@@ -87,7 +87,7 @@ symbol-twice =
     input (object (1 ∷ []) (symbol 9 5 0 other ∷ []) (function 1 2 0 ∷ []) (relocation 1 9 0 64 ∷ [])
     (map-row 5 (some 9) 7 false ∷ map-row 5 (some 9) 6 false ∷ []) (load (pos 0) ∷ next ∷ [])) 0
 
--- two relocations at one offset, and the other order
+-- two relocations at one offset, and the other order (of the definition only: the crate's HashMap by offset does not hold both)
 abbrev pub offset-twice : Input
 offset-twice = record {
   tables = object (1 ∷ []) (symbol 8 5 0 other ∷ symbol 9 5 0 other ∷ []) (function 1 2 0 ∷ []) (relocation 1 8 0 64 ∷ relocation 1 9 0 64 ∷ [])
@@ -101,7 +101,7 @@ offset-twice = record {
 }
 
 -- a root that is no row; two functions of one key; table 6 a slot short; an address of 2⁶⁴ − 8, which the crate's sum leaves; an offset of 2⁶⁴; an
--- opcode that is no byte; an immediate that is no i32
+-- opcode that is no byte; an immediate that is no i32. The one key and the last three are of the definition only: no Rust value holds them
 abbrev pub no-root : Input
 no-root = input (object (1 ∷ []) [] (function 1 1 0 ∷ []) [] [] (exits ∷ [])) 1
 

@@ -1,4 +1,6 @@
 pub mod Perms
+pub mod ReaderInputs
+pub mod ReaderVectors
 pub mod Inputs
 pub mod Excluded
 pub mod Pinned
@@ -17,6 +19,9 @@ pub mod Answered
 pub mod Demand2
 pub mod Valid
 pub mod Offered
+pub mod Records
+pub mod Readers
+pub mod ReaderNeeded
 pub mod Entries
 pub mod Outside
 pub mod Inhabited

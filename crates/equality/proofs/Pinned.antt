@@ -10,17 +10,19 @@ use Prim.Native.Nat.{ℕ}
 use lib.IntN.{pos, negsuc}
 use Rattle.rules.specs.Object.{Insn, isCall, isBlank, isWideLoad, decide, meaning, displacement, calling, referring}
 use Rattle.rules.specs.Link.{refusal, visit, append, link}
-use Rattle.rules.specs.Bytes.{little, bytes4, u16At, u32At, u64At, signed, unsigned, decode, encode, decoded, encoded}
+use Rattle.rules.specs.Bytes.{little, bytes4, u16At, u32At, u64At, signed, unsigned, decode, encode, decoded, encoded, padded}
 use Rattle.rules.specs.Tables.{other, text, LineRecord, Tables, objectOf}
 use Rattle.rules.specs.Maps.{judge, firstRefusal, applied, rewriteAll, mapStep}
 use Rattle.rules.specs.Records.{imageFunctions, imageLines, admits, roomFor, strayLine, linkStep}
-use Rattle.rules.specs.Rows.{codeSection, symbolIndex, symbolSection, symbolAddress, symbolKind, functionSection, functionSlots, functionAddress, functionOffset, functionFuncInfo, functionLineInfo, relocationSection, relocationSymbol, relocationOffset, relocationSize, mapSection, mapSymbol, mapFd, mapHasData, isGood, total, tooMany, firstBroken, brokenIn, broken, Offered, tablesOf, mapStepRefusal, linkRefusal}
+use Rattle.rules.specs.Answers.{reply}
+use Rattle.rules.specs.Rows.{codeSection, symbolIndex, symbolSection, symbolAddress, symbolKind, functionSection, functionSlots, functionAddress, functionOffset, functionFuncInfo, functionLineInfo, relocationSection, relocationSymbol, relocationOffset, relocationSize, mapSection, mapSymbol, mapFd, mapHasData, recordSlot, recordType, recordFile, recordLine, recordColumn, isGood, total, tooMany, firstBroken, brokenIn, broken, Offered, tablesOf, mapStepRefusal, linkRefusal}
 use Rattle.rules.specs.Entries.{Outputs, acceptedLink, mapEntry, linkEntry}
 use Rattle.equality.specs.Crate as Crate
-use Rattle.equality.specs.Crate.{u32, u64, i32, add-u64, mul-u64, add-u32, sub-u32, add-i32, sub-i32, insn-is-call, Result, ok, err, panics, too-deep, section-not-found, Linker, lines-at, relocate-map, relocate-maps, relocate-functions, object-relocate-maps, slot-of, relocate-from, relocate, link-new, relocate-calls}
+use Rattle.equality.specs.Crate.{u32, u64, i32, add-u64, mul-u64, add-u32, sub-u32, add-i32, sub-i32, insn-is-call, Result, ok, err, panics, too-deep, section-not-found, insert, new, Linker, lines-at, relocate-map, relocate-maps, relocate-functions, object-relocate-maps, slot-of, relocate-from, relocate, link-new, relocate-calls}
+use Rattle.equality.specs.Info.{insn-bytes, func-info-bytes, line-info-bytes}
 use Rattle.equality.specs.Domain.{Hidden, crateOf}
 use Rattle.equality.specs.Demand2.{both-steps}
-use Rattle.equality.specs.Entries.{went, ourEntries, SameCause}
+use Rattle.equality.specs.Entries.{went, ourEntries, SameBytes, SameCause}
 use Rattle.equality.proofs.Inputs.{Input, hiddenOf, input, symbol, function, relocation, map-row, insn, exits, calls, load, next, object}
 
 abbrev line : ℕ → LineRecord
@@ -135,3 +137,47 @@ mapped =
 pub mapped-linked : ourEntries little mapped 0 lent ≡ went (acceptedLink little lent (insn 0x18 1 1 (pos 7) ∷ next ∷ []) [] [])
 unfolding ourEntries mapEntry linkEntry tablesOf mapStepRefusal linkRefusal tooMany broken brokenIn firstBroken isGood total decoded decode encoded encode u16At u32At u64At signed unsigned codeSection symbolIndex symbolSection symbolAddress symbolKind functionSection functionSlots functionAddress functionOffset functionFuncInfo functionLineInfo relocationSection relocationSymbol relocationOffset relocationSize mapSection mapSymbol mapFd mapHasData isCall isBlank isWideLoad decide meaning displacement calling referring visit append link objectOf judge firstRefusal applied rewriteAll mapStep imageFunctions imageLines admits roomFor strayLine linkStep
 mapped-linked = refl
+
+-- the root that calls itself, with its records, from bytes to bytes: the records as the crate's own encoder gives them
+abbrev with-records : Offered
+with-records = record {
+  code = word 1;
+  symbols = [];
+  functions = word 1 ++ (word 1 ++ (long 0 ++ (long 0 ++ (word 1 ++ word 1))));
+  relocations = [];
+  maps = [];
+  instructions = 0x85 ∷ 0x10 ∷ 0 ∷ 0 ∷ 0xff ∷ 0xff ∷ 0xff ∷ 0xff ∷ [];
+  funcInfo = word 0 ++ word 3;
+  lineInfo = word 0 ++ (word 1 ++ (word 2 ++ word 3));
+}
+
+abbrev wide : Outputs
+wide = record { image = 17; funcInfo = 17; lineInfo = 33 }
+
+pub records-same : SameBytes little wide (ourEntries little with-records 0 wide)
+    (both-steps (crateOf (tablesOf little with-records) (record { values = λ home. []; maps = []; func-nums = λ row. 1; line-nums = λ row. 1 })) [] 1 0)
+unfolding ourEntries mapEntry linkEntry tablesOf mapStepRefusal linkRefusal tooMany broken brokenIn firstBroken isGood total decoded decode encoded encode u16At u32At u64At signed unsigned codeSection symbolIndex symbolSection symbolAddress symbolKind functionSection functionSlots functionAddress functionOffset functionFuncInfo functionLineInfo relocationSection relocationSymbol relocationOffset relocationSize recordSlot recordType recordFile recordLine recordColumn mapSection mapSymbol mapFd mapHasData isCall isBlank isWideLoad decide meaning displacement calling referring visit append link objectOf judge firstRefusal applied rewriteAll mapStep imageFunctions imageLines admits roomFor strayLine linkStep u32 u64 i32 add-u64 mul-u64 add-u32 sub-u32 add-i32 sub-i32 insn-is-call relocate-map relocate-maps relocate-functions object-relocate-maps slot-of relocate-from relocate link-new Crate.link relocate-calls crateOf both-steps insn-bytes func-info-bytes line-info-bytes padded
+records-same = record {
+  linker = record {
+    instructions = calls (pos 0) ∷ calls (negsuc 0) ∷ [];
+    func-info = record { slot = 0; kind = 3 } ∷ record { slot = 1; kind = 3 } ∷ [];
+    func-num-info = 2;
+    line-info = line 0 ∷ line 1 ∷ [];
+    line-num-info = 2;
+    linked-functions = insert 0 1 new;
+  };
+  is-ok = refl;
+  result = record {
+    reply = reply 0 2 2 2;
+    image = 0x85 ∷ 0x10 ∷ 0 ∷ 0 ∷ 0 ∷ 0 ∷ 0 ∷ 0 ∷ 0x85 ∷ 0x10 ∷ 0 ∷ 0 ∷ 0xff ∷ 0xff ∷ 0xff ∷ 0xff ∷ 0 ∷ [];
+    funcInfo = 0 ∷ 0 ∷ 0 ∷ 0 ∷ 3 ∷ 0 ∷ 0 ∷ 0 ∷ 1 ∷ 0 ∷ 0 ∷ 0 ∷ 3 ∷ 0 ∷ 0 ∷ 0 ∷ 0 ∷ [];
+    lineInfo = 0 ∷ 0 ∷ 0 ∷ 0 ∷ 1 ∷ 0 ∷ 0 ∷ 0 ∷ 2 ∷ 0 ∷ 0 ∷ 0 ∷ 3 ∷ 0 ∷ 0 ∷ 0 ∷ 1 ∷ 0 ∷ 0 ∷ 0 ∷ 1 ∷ 0 ∷ 0 ∷ 0 ∷ 2 ∷ 0 ∷ 0 ∷ 0 ∷ 3 ∷ 0 ∷ 0 ∷ 0 ∷ 0 ∷ [];
+  };
+  is-went = refl;
+  places = refl;
+  image = refl;
+  func-info = refl;
+  line-info = refl;
+  func-num = refl;
+  line-num = refl;
+}

@@ -5,16 +5,17 @@ use mathlib.Core.Logic.{_⊎_}
 use mathlib.Core.Bool.{cond}
 use mathlib.Core.Option.{none}
 use mathlib.Core.List.{List}
-use Prim.Native.Nat.{ℕ, _<_}
+use Prim.Native.Nat.{ℕ}
 use lib.Dec.{eqb}
 use lib.ListN.{length}
 use Rattle.rules.specs.Link.{Refusal}
-use Rattle.rules.specs.Bytes.{Order, byteAt}
-use Rattle.rules.specs.Answers.{Reply}
+use Rattle.rules.specs.Bytes.{Order, AreBytes, padded}
+use Rattle.rules.specs.Answers.{Reply, reply}
 use Rattle.rules.specs.Rows.{Offered, tablesOf, mapStepRefusal, linkRefusal}
-use Rattle.rules.specs.Entries.{MapResult, mapResult, Outputs, roomIn, LinkResult, refusalReply, refusedLink, acceptedLink, mapEntry, linkEntry}
+use Rattle.rules.specs.Entries.{MapResult, mapResult, Outputs, roomIn, LinkResult, refusalReply, refusedLink, mapEntry, linkEntry}
 use Rattle.equality.specs.Crate as Crate
 use Rattle.equality.specs.Crate.{Result, ok, err, Linker}
+use Rattle.equality.specs.Info.{insn-bytes, func-info-bytes, line-info-bytes}
 use Rattle.equality.specs.Domain.{Hidden, crateFunctions, Compared, causeOf}
 use Rattle.equality.specs.Demand2.{valid-tables, Except}
 
@@ -48,16 +49,22 @@ pub record EntryDomain (order : Order) (o : Offered) (hidden : Hidden) (lent : O
   -- "Valid tables in our limits": neither 1 nor 2 nor 13. Bytes are bytes
   pub map-passes : mapStepRefusal o ≡ none
   pub link-passes : linkRefusal o root ≡ none
-  pub bytes : (k : ℕ) → byteAt (o .instructions) k < 256
-  pub map-bytes : (k : ℕ) → byteAt (o .maps) k < 256
+  pub bytes : AreBytes (o .instructions)
+  pub map-bytes : AreBytes (o .maps)
   -- the clauses but that one
   pub clauses : Except valid-tables (tablesOf order o) hidden (roomIn lent) root
 
--- accepted: the three outputs are the crate's instructions, function records and line records
+-- accepted: the three outputs are the crate's instructions as they lie in memory, and its function and line records as its own encoder gives them,
+-- on a host of that order
 pub record SameBytes (order : Order) (lent : Outputs) (e : Entered) (o : Result Linker) : Type 0 where
   pub linker : Linker
   pub is-ok : o ≡ ok linker
-  pub written : e ≡ went (acceptedLink order lent (linker .instructions) (linker .func-info) (linker .line-info))
+  pub result : LinkResult
+  pub is-went : e ≡ went result
+  pub places : result .reply ≡ reply 0 (length (linker .instructions)) (length (linker .func-info)) (length (linker .line-info))
+  pub image : result .image ≡ padded (lent .image) (insn-bytes order (linker .instructions))
+  pub func-info : result .funcInfo ≡ padded (lent .funcInfo) (func-info-bytes order (linker .func-info))
+  pub line-info : result .lineInfo ≡ padded (lent .lineInfo) (line-info-bytes order (linker .line-info))
   -- the crate's two `num_info` are the counts that the places say
   pub func-num : linker .func-num-info ≡ length (linker .func-info)
   pub line-num : linker .line-num-info ≡ length (linker .line-info)

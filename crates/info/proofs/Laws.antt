@@ -10,11 +10,11 @@ use lib.ListN.{length, take, drop, getD, replicate, length-take, length-drop, Li
 use lib.Seq.{getD-take, getD-drop, getD-append-add, drop-drop, take-add, take-length, ext-getD}
 use Rattle.rules.specs.declared.Table.{Table}
 use Rattle.rules.specs.declared.Table.the-variants.{FuncInfo, LineInfo}
-use Rattle.rules.specs.Bytes.{Order, little, big, byteAt, u32At, bytes4, padded}
+use Rattle.rules.specs.Bytes.{Order, little, big, byteAt, u32At, bytes4, padded, AreBytes}
 use Rattle.rules.specs.Rows.{rowSize, recordSlot, recordType, recordFile, recordLine, recordColumn}
 use Rattle.rules.specs.Readers.{Info, isWhole, rowOfRecord, rowsOfRecords}
 use Rattle.rules.proofs.Writing.{length-bytes4, u32-same}
-use Rattle.rules.proofs.Rounds.{Bytes, number4-of, bytes4-at, from-part}
+use Rattle.rules.proofs.Rounds.{number4-of, bytes4-at, from-part}
 use Rattle.info.proofs.Whole.{one-more-fits, whole-size, whole-length, whole-grid, whole-within}
 use Rattle.info.proofs.Written.{Within, rest-length, row-length, rows-length, row-size-least}
 
@@ -124,7 +124,7 @@ pub whole-rows : (order : Order) (table : Table) (info : Info) → isWhole order
 whole-rows order table info whole k l = omega (arith, whole-size order table info whole, whole-within order table info whole k l)
 
 -- data whose records have no tail
-module _ (order : Order) (table : Table) (info : Info) (whole : isWhole order table info ≡ true) (are : Bytes (info .bytes)) (no-tail : info .size ≡ rowSize table) where
+module _ (order : Order) (table : Table) (info : Info) (whole : isWhole order table info ≡ true) (are : AreBytes (info .bytes)) (no-tail : info .size ≡ rowSize table) where
   abbrev rows : List ℕ
   rows = rowsOfRecords order table info 0 (info .count)
 

@@ -32,6 +32,15 @@ both : (a b : Bool) → a && b ≡ true → (a ≡ true) × (b ≡ true)
 both true b e = (refl, e)
 both false b e = let z : _≡_ {A = ℕ} 0 1 = cc in absurd (omega arith)
 
+-- what one of two tests refuses has not passed both
+pub first-refuses : (a b : Bool) → a ≡ false → a && b ≡ true → ⊥
+first-refuses true b refused e = let z : _≡_ {A = ℕ} 0 1 = cc in omega arith
+first-refuses false b refused e = let z : _≡_ {A = ℕ} 0 1 = cc in omega arith
+
+pub second-refuses : (a b : Bool) → b ≡ false → a && b ≡ true → ⊥
+second-refuses true b refused e = let z : _≡_ {A = ℕ} 0 1 = cc in omega arith
+second-refuses false b refused e = let z : _≡_ {A = ℕ} 0 1 = cc in omega arith
+
 module _ (order : Order) (info : Info) (k n : ℕ) (more : k < n) where
   one-more : onGrid order info k (n - k) ≡ eqb (u32At order (info .bytes) (info .size * k) % 8) 0 && onGrid order info (k + 1) (n - (k + 1))
   one-more =
@@ -39,11 +48,11 @@ module _ (order : Order) (info : Info) (k n : ℕ) (more : k < n) where
       ap (onGrid order info k) e
       ∙ ap (λ (m : ℕ). eqb (u32At order (info .bytes) (info .size * k) % 8) 0 && onGrid order info m (n - (k + 1))) (sym (add-one k))
 
-  pub grid-step : u32At order (info .bytes) (info .size * k) % 8 ≡ 0 → onGrid order info k (n - k) ≡ onGrid order info (k + 1) (n - (k + 1))
-  grid-step e = one-more ∙ ap (λ (b : Bool). b && onGrid order info (k + 1) (n - (k + 1))) (eq-eqb _ _ e)
+  pub grid-step : eqb (u32At order (info .bytes) (info .size * k) % 8) 0 ≡ true → onGrid order info k (n - k) ≡ onGrid order info (k + 1) (n - (k + 1))
+  grid-step e = one-more ∙ ap (λ (b : Bool). b && onGrid order info (k + 1) (n - (k + 1))) e
 
-  pub grid-stop : (u32At order (info .bytes) (info .size * k) % 8 ≡ 0 → ⊥) → onGrid order info k (n - k) ≡ false
-  grid-stop e = one-more ∙ ap (λ (b : Bool). b && onGrid order info (k + 1) (n - (k + 1))) (ne-eqb _ _ e)
+  pub grid-stop : eqb (u32At order (info .bytes) (info .size * k) % 8) 0 ≡ false → onGrid order info k (n - k) ≡ false
+  grid-stop e = one-more ∙ ap (λ (b : Bool). b && onGrid order info (k + 1) (n - (k + 1))) e
 
 grid-at : (order : Order) (info : Info) (k n i : ℕ) → onGrid order info k n ≡ true → i < n
     → u32At order (info .bytes) (info .size * (k + i)) % 8 ≡ 0

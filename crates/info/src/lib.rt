@@ -1,6 +1,10 @@
 // Readers of .BTF.ext data: function and line records as rows, and record k as a part of the caller's bytes.
 use answers::refusal;
+use insn::is_on_grid;
+use insn::offset_at;
+use insn::to_slot;
 use rules::Answer;
+use rules::ByteOffset;
 use rules::Cause;
 use rules::Places;
 use rules::Table;
@@ -17,16 +21,17 @@ use wire::put_u32;
 use wire::u32_at;
 use wire::wipe;
 ghost use mathlib.Core.Path.{_≡_};
-ghost use Prim.Native.Nat.{_*_, _≤_, _<_, _^_};
+ghost use Prim.Native.Nat.{_+_, _*_, _/_, _%_, _≤_, _<_, _^_};
+ghost use lib.Dec.{eqb};
 ghost use lib.ListN.{length};
-ghost use Rattle.rules.specs.Bytes.{little, padded};
+ghost use Rattle.rules.specs.Bytes.{little, u32At, padded};
 ghost use Rattle.rules.specs.Answers.{replyOf};
 ghost use Rattle.rules.specs.Lent.{was};
 ghost use Rattle.rules.specs.Rows.{rowSize};
-ghost use Rattle.rules.specs.Readers.{onGrid, isWhole, rowsOfRecords, recordPart, recordReply};
+ghost use Rattle.rules.specs.Readers.{onGrid, isWhole, rowsOfRecords, recordReply};
 ghost use Rattle.rules.specs.declared.Table.{Table};
 ghost use Rattle.rules.specs.declared.Table.the-variants.{FuncInfo, LineInfo};
-ghost use Rattle.info.specs.Promises.{given, ReadAs, Ready};
+ghost use Rattle.info.specs.Promises.{given, ReadAs, Ready, GivenBack};
 
 fn row_size(table: Table) -> usize
     ensures { λ r. ⌜ (r ≡ rowSize table) × ((4 ≤ r) × (r < 2 ^ 32)) ⌝ }
@@ -43,6 +48,29 @@ fn row_size(table: Table) -> usize
     }
 }
 
+// "Slot = byte offset / 8": the byte offset with which a record begins.
+fn offset_in(bytes: &[u8], at: usize) -> ByteOffset
+    requires { ⌜ at + 4 ≤ length (now bytes) ⌝ }
+    ensures { λ r. ⌜ (r .0 ≡ u32At little (was bytes) at) × (r .0 < 2 ^ 32) ⌝ }
+{
+    offset_at(u32_at(bytes, at) as u64)
+}
+
+fn is_slot_at(bytes: &[u8], at: usize) -> bool
+    requires { ⌜ at + 4 ≤ length (now bytes) ⌝ }
+    ensures { λ r. ⌜ r ≡ eqb (u32At little (was bytes) at % 8) 0 ⌝ }
+{
+    is_on_grid(offset_in(bytes, at))
+}
+
+fn slot_in(bytes: &[u8], at: usize) -> u32
+    requires { ⌜ at + 4 ≤ length (now bytes) ⌝ }
+    ensures { λ r. ⌜ r ≡ u32At little (was bytes) at / 8 ⌝ }
+{
+    let slot = to_slot(offset_in(bytes, at));
+    slot.0
+}
+
 fn on_grid(size: usize, count: usize, bytes: &[u8]) -> bool
     requires { ⌜ (4 ≤ size) × (count * size ≡ length (now bytes)) ⌝ }
     ensures { λ r. ⌜ r ≡ onGrid little (given size count (was bytes)) 0 count ⌝ }
@@ -50,7 +78,7 @@ fn on_grid(size: usize, count: usize, bytes: &[u8]) -> bool
     let mut at = 0;
     let mut k = 0;
     while k < count {
-        if u32_at(bytes, at) % 8 != 0 {
+        if !is_slot_at(bytes, at) {
             return false;
         }
         at += size;
@@ -84,7 +112,7 @@ fn put_rows(row: usize, size: usize, count: usize, bytes: &[u8], out: &mut [u8])
     let mut to = 0;
     let mut k = 0;
     while k < count {
-        put_u32(out, to, u32_at(bytes, from) / 8);
+        put_u32(out, to, slot_in(bytes, from));
         copy(out, to + 4, bytes, from + 4, row - 4);
         from += size;
         to += row;
@@ -123,7 +151,7 @@ pub fn line_info(size: u32, count: u32, bytes: &[u8], out: &mut [u8]) -> Answer
 }
 
 fn record<'a>(table: Table, size: u32, count: u32, bytes: &'a [u8], k: u32) -> &'a [u8]
-    ensures { λ r. ⌜ now r ≡ recordPart little table (given size count (was bytes)) k ⌝ }
+    ensures { λ r. ⌜ GivenBack table (given size count (was bytes)) k (bytes .entry) r ⌝ }
 {
     if !is_whole(table, size, count, bytes) {
         return &bytes[0..0];
@@ -150,14 +178,14 @@ fn record_number(table: Table, size: u32, count: u32, bytes: &[u8], k: u32) -> A
 
 // Record k of struct bpf_func_info, its tail included; empty where the data is refused or has no record k.
 pub fn func_info_record<'a>(size: u32, count: u32, bytes: &'a [u8], k: u32) -> &'a [u8]
-    ensures { λ r. ⌜ now r ≡ recordPart little FuncInfo (given size count (was bytes)) k ⌝ }
+    ensures { λ r. ⌜ GivenBack FuncInfo (given size count (was bytes)) k (bytes .entry) r ⌝ }
 {
     record(Table::FuncInfo, size, count, bytes, k)
 }
 
 // The same of struct bpf_line_info.
 pub fn line_info_record<'a>(size: u32, count: u32, bytes: &'a [u8], k: u32) -> &'a [u8]
-    ensures { λ r. ⌜ now r ≡ recordPart little LineInfo (given size count (was bytes)) k ⌝ }
+    ensures { λ r. ⌜ GivenBack LineInfo (given size count (was bytes)) k (bytes .entry) r ⌝ }
 {
     record(Table::LineInfo, size, count, bytes, k)
 }

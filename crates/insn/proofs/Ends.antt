@@ -1,9 +1,12 @@
 -- Where calls lead, in numbers: next to the slot itself, and at both ends of an immediate.
 -- Assumes nothing.
 use mathlib.Core.Path.{_≡_, refl}
-use lib.IntN.{pos, negsuc, _+ℤ_}
-use Rattle.rules.specs.Object.{displacement}
-use Rattle.rules.specs.Tables.{slotsOn}
+use mathlib.Core.Option.{some}
+use mathlib.Core.List.{[], _∷_}
+use Prim.Native.Nat.{ℕ}
+use lib.IntN.{pos, negsuc}
+use Rattle.rules.specs.Object.{function, missing, displacement}
+use Rattle.rules.specs.Tables.{section, Tables, slotsOn, byCode}
 
 -- −2 is the slot before, −1 the slot itself, 0 the slot after
 pub called : (slotsOn (negsuc 1) ≡ negsuc 7) × (slotsOn (negsuc 0) ≡ pos 0) × (slotsOn (pos 0) ≡ pos 8)
@@ -16,7 +19,21 @@ pub displaced : (displacement 6 7 ≡ negsuc 1) × (displacement 7 7 ≡ negsuc 
 unfolding displacement
 displaced = (refl, refl, refl, refl, refl)
 
--- bytes, counted from the address itself
-pub reached : (pos 16 +ℤ negsuc 1 ≡ pos 14) × (pos 16 +ℤ negsuc 0 ≡ pos 15) × (pos 16 +ℤ pos 0 ≡ pos 16)
-    × (pos 16 +ℤ negsuc 0x7FFF_FFFF ≡ negsuc 0x7FFF_FFEF) × (pos 16 +ℤ pos 0x7FFF_FFFF ≡ pos 0x8000_000F)
+-- one function, in section 1 at that address
+abbrev alone : ℕ → Tables
+alone address = record {
+  code = 1 ∷ [];
+  symbols = [];
+  functions = record { home = 1; slots = 1; address = address; offset = 0; functions = 0; lines = 0 } ∷ [];
+  relocations = [];
+  maps = [];
+  instructions = [];
+  functionRecords = [];
+  lineRecords = [];
+}
+
+-- a Section symbol at 16, size 64: bytes, counted from the address itself; below 0 there is nothing
+pub reached : (byCode (alone 14) section (some 1) 16 64 (negsuc 1) ≡ function 0) × (byCode (alone 15) section (some 1) 16 64 (negsuc 0) ≡ function 0)
+    × (byCode (alone 16) section (some 1) 16 64 (pos 0) ≡ function 0) × (byCode (alone 0x7FFF_FFF0) section (some 1) 16 64 (negsuc 0x7FFF_FFFF) ≡ missing 10)
+    × (byCode (alone 0x8000_000F) section (some 1) 16 64 (pos 0x7FFF_FFFF) ≡ function 0)
 reached = (refl, refl, refl, refl, refl)

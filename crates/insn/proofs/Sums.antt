@@ -1,18 +1,16 @@
--- Sums of addresses and immediates that the machine's word holds exactly, by how far they can reach; and when a target's bits are an address.
+-- Sums of addresses and immediates, and differences of slots, that the machine's word holds exactly, by how far they can reach.
 -- Assumes nothing.
-use mathlib.Core.Path.{_≡_, refl, sym}
+use mathlib.Core.Path.{_≡_}
 use mathlib.Core.Bool.{Bool, true, false, cond}
 use Prim.Native.Nat.{ℕ, zero, suc, _+_, _*_, _-_, _≤_, _<_, _^_}
 use native.Mathlib.Omega.{arith}
 use native.Mathlib.Nat.{lt-of-lt-of-le, le-trans, mul-le-mul-left}
-use lib.Dec.{lit≤, ltb, eqb}
+use lib.Dec.{lit≤, ltb}
 use lib.IntN.{ℤ, pos, negsuc, negℤ, _+ℤ_, _-ℤ_, _*ℤ_}
 use lib.Signed.{mag}
 use mir.Syntax.{w32, w64}
 use mir.Val.{toZ, ofZ, SFits}
 use mir.ValLaws.{toZ-ofZ, toZ-pos}
-use borrow.Author.Tests.{eqb-true, eqb-false, eq-eqb, ne-eqb}
-use Rattle.rules.specs.Tables.{isAt}
 use Rattle.rules.specs.Tables.{slotsOn}
 
 -- what 32 bits hold, 64 hold
@@ -68,17 +66,10 @@ module _ {address : ℕ} {z : ℤ} (s : Summands address z) where
   pub value-fits : SFits w64 (z +ℤ pos address)
   value-fits = record { sfits = omega (arith, mag-add z (pos address), s .fits .sfits) }
 
-pub difference-fits : (a b : ℕ) → a < 2 ^ 31 → b < 2 ^ 31 → SFits w32 (pos a -ℤ pos b)
-difference-fits a zero l l′ = record { sfits = omega arith }
-difference-fits a (suc b) l l′ =
-    record { sfits = omega (arith, mag-cond (ltb a (suc b)) (suc b - suc a) (a - suc b) 0x7FFF_FFFE (omega arith) (omega arith)) }
+-- two slots apart, and one less
+module _ (a b : ℕ) (l : a < 2 ^ 32) (l′ : b < 2 ^ 32) where
+  pub difference-fits : SFits w64 (pos a -ℤ pos b)
+  difference-fits = record { sfits = omega (arith, mag-add (pos a) (negℤ (pos b)), mag-neg b) }
 
--- the bits of a target are an address only where the target is not below 0
-pub at-address : (address : ℕ) → address < 2 ^ 48 → (target : ℤ) → SFits w64 target → eqb (ofZ w64 target) address ≡ isAt address target
-at-address address low (pos n) f = either (eqb n address) refl
-  where
-    either : (b : Bool) → eqb n address ≡ b → b ≡ eqb address n
-    either true e = sym (eq-eqb address n (sym (eqb-true n address e)))
-    either false e = sym (ne-eqb address n (λ q. eqb-false n address e (sym q)))
-at-address address low (negsuc n) f =
-    ne-eqb (2 ^ 64 - suc n) address (λ (e : 2 ^ 64 - suc n ≡ address). omega (arith, f .sfits))
+  pub displacement-fits : SFits w64 (pos a -ℤ pos b -ℤ pos 1)
+  displacement-fits = record { sfits = omega (arith, mag-add (pos a -ℤ pos b) (negsuc 0), mag-add (pos a) (negℤ (pos b)), mag-neg b) }

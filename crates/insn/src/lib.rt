@@ -6,14 +6,14 @@ use wire::i32_at;
 use wire::put_i32;
 use wire::u32_at;
 ghost use mathlib.Core.Path.{_≡_};
-ghost use Prim.Native.Nat.{_+_, _*_, _≤_, _<_, _^_};
+ghost use Prim.Native.Nat.{_+_, _*_, _%_, _≤_, _<_, _^_};
+ghost use lib.Dec.{eqb};
 ghost use lib.IntN.{pos, _+ℤ_};
 ghost use lib.ListN.{length};
 ghost use Rattle.rules.specs.Bytes.{little, slotIn, slotSize, immediateStored, sourceStored};
 ghost use Rattle.rules.specs.Lent.{was};
 ghost use Rattle.rules.specs.Object.{isCall, isBlank};
 ghost use Rattle.rules.specs.Object as object;
-ghost use Rattle.rules.specs.Tables.{isAt};
 ghost use Rattle.insn.specs.Slots.{offsetOf, slotOf};
 ghost use Rattle.rules.specs.Tables.{slotsOn};
 ghost use Rattle.insn.specs.Wide.{wideLoadIn};
@@ -48,6 +48,13 @@ pub fn to_slot(o: ByteOffset) -> Slot
     Slot((n / 8) as u32)
 }
 
+// Where a slot begins.
+pub fn is_on_grid(o: ByteOffset) -> bool
+    ensures { λ r. ⌜ r ≡ eqb (o .0 % slotSize) 0 ⌝ }
+{
+    o.0 % 8 == 0
+}
+
 // The section's byte offset of a slot of a function that starts at `base`.
 pub fn place(base: ByteOffset, s: Slot) -> ByteOffset
     requires { ⌜ base .0 < 2 ^ 48 ⌝ }
@@ -55,6 +62,14 @@ pub fn place(base: ByteOffset, s: Slot) -> ByteOffset
 {
     let on = to_offset(s);
     ByteOffset(base.0 + on.0)
+}
+
+// A slot counted from a first one.
+pub fn after(first: Slot, s: Slot) -> Slot
+    requires { ⌜ first .0 + s .0 < 2 ^ 32 ⌝ }
+    ensures { λ r. ⌜ r .0 ≡ first .0 + s .0 ⌝ }
+{
+    Slot(first.0 + s.0)
 }
 
 pub fn next(s: Slot) -> Slot
@@ -86,19 +101,11 @@ pub fn value(imm: i32, address: ByteOffset) -> i64
     imm as i64 + address.0 as i64
 }
 
-// A target below 0 is at no address.
-pub fn is_at(target: i64, address: ByteOffset) -> bool
-    requires { ⌜ address .0 < 2 ^ 48 ⌝ }
-    ensures { λ r. ⌜ r ≡ isAt (address .0) target ⌝ }
-{
-    target == address.0 as i64
-}
-
-pub fn displacement(start: Slot, here: Slot) -> i32
-    requires { ⌜ (start .0 < 2 ^ 31) × (here .0 < 2 ^ 31) ⌝ }
+// Exact at 64 bits, whatever the two slots.
+pub fn displacement(start: Slot, here: Slot) -> i64
     ensures { λ r. ⌜ r ≡ object.displacement (start .0) (here .0) ⌝ }
 {
-    start.0 as i32 - here.0 as i32 - 1
+    start.0 as i64 - here.0 as i64 - 1
 }
 
 // The place of a slot's first byte in a table of slots.
@@ -169,11 +176,11 @@ pub fn is_wide_load(code: &[u8], slot: Slot, end: Slot) -> bool
     if opcode(code, slot) != 0x18 {
         return false;
     }
-    let after = next(slot);
-    if after.0 >= end.0 {
+    let second = next(slot);
+    if second.0 >= end.0 {
         return false;
     }
-    is_blank(code, after)
+    is_blank(code, second)
 }
 
 pub fn set_immediate(code: &mut [u8], slot: Slot, imm: i32)

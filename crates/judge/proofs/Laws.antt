@@ -24,8 +24,7 @@ use Rattle.rules.specs.Tables.{other, text, section, MapRow, Tables}
 use Rattle.rules.specs.Maps as step
 use Rattle.rules.specs.Maps.{orElse, fits32, byMap, byKind}
 use Rattle.rules.specs.Rows.{noneNumber, otherKind, textKind, withData, wholeRows, orNone, kindOf, symbolSection, symbolAddress, symbolKind, mapFd, mapHasData, mapRow}
-use Rattle.rules.specs.Lookups.{foundOf, isCodeSection, symbolWith, mapWithSymbol, mapOfSection}
-use Rattle.rules.proofs.Searches.{read}
+use Rattle.rules.specs.Lookups.{foundOf, isCodeSection, symbolWith, mapWithSymbol, mapOfSection, readRow}
 use Rattle.rows.proofs.Laws.{map-symbol-found, map-section-found}
 use Rattle.judge.specs.declared.Site.{Site}
 use Rattle.judge.specs.declared.Verdict.{Verdict}
@@ -91,7 +90,7 @@ module _ (maps : List ℕ) (symbol home address : ℕ) (site : Site) where
     found-map : (tables : Tables) (b : Bool) → site .wide ≡ b
         → mapVerdict maps symbol home address site tables ≡ byMap tables (some (mapRow maps m)) b (site .imm +ℤ pos address)
     found-map tables b e =
-        ap (λ o. byMap tables (read (mapRow maps) o) (site .wide) (site .imm +ℤ pos address)) found
+        ap (λ o. byMap tables (readRow (mapRow maps) o) (site .wide) (site .imm +ℤ pos address)) found
         ∙ ap (λ w. byMap tables (some (mapRow maps m)) w (site .imm +ℤ pos address)) e
 
     pub not-wide-says : site .wide ≡ false → (r : Verdict) → Says site (refusedFor NotWideLoad) r → Says site (mapVerdict maps symbol home address site) r
@@ -122,10 +121,10 @@ module _ (code symbols maps : List ℕ) (s symbol : ℕ) (site : Site) where
 
     by-section : (tables : Tables) (skips : Bool) → (site .call || isCodeSection code home) ≡ skips → rowVerdict code symbols maps s symbol site tables
         ≡ cond skips step.skipped
-        (byKind tables (kindOf (symbolKind symbols s)) (read (mapRow maps) (mapFound maps symbol home)) (site .wide) (site .imm +ℤ pos (symbolAddress symbols s)))
+        (byKind tables (kindOf (symbolKind symbols s)) (readRow (mapRow maps) (mapFound maps symbol home)) (site .wide) (site .imm +ℤ pos (symbolAddress symbols s)))
     by-section tables skips e =
         ap (homeVerdict code symbols maps s symbol site tables) section-is
-        ∙ ap (λ b. cond b step.skipped (byKind tables (kindOf (symbolKind symbols s)) (read (mapRow maps) (mapFound maps symbol home)) (site .wide) (site .imm +ℤ pos (symbolAddress symbols s)))) e
+        ∙ ap (λ b. cond b step.skipped (byKind tables (kindOf (symbolKind symbols s)) (readRow (mapRow maps) (mapFound maps symbol home)) (site .wide) (site .imm +ℤ pos (symbolAddress symbols s)))) e
 
     pub call-says : site .call ≡ true → Says site (rowVerdict code symbols maps s symbol site) Skipped
     call-says e = record { says = λ tables. sym (by-section tables true (ap (λ b. b || isCodeSection code home) e)); places = tt }
@@ -138,20 +137,20 @@ module _ (code symbols maps : List ℕ) (s symbol : ℕ) (site : Site) where
       -- nor code
       module _ (no-code : isCodeSection code home ≡ false) where
         judged : (tables : Tables) → rowVerdict code symbols maps s symbol site tables
-            ≡ byKind tables (kindOf (symbolKind symbols s)) (read (mapRow maps) (mapFound maps symbol home)) (site .wide) (site .imm +ℤ pos (symbolAddress symbols s))
+            ≡ byKind tables (kindOf (symbolKind symbols s)) (readRow (mapRow maps) (mapFound maps symbol home)) (site .wide) (site .imm +ℤ pos (symbolAddress symbols s))
         judged tables = by-section tables false (ap (λ b. b || isCodeSection code home) no-call ∙ no-code)
 
         pub text-says : symbolKind symbols s ≡ textKind → (r : Verdict) → Says site (refusedFor SectionNotFound) r → Says site (rowVerdict code symbols maps s symbol site) r
         text-says e =
             says-same site _ _ (λ tables. sym (judged tables
-            ∙ ap (λ k. byKind tables k (read (mapRow maps) (mapFound maps symbol home)) (site .wide) (site .imm +ℤ pos (symbolAddress symbols s))) (is-text (symbolKind symbols s) e)))
+            ∙ ap (λ k. byKind tables k (readRow (mapRow maps) (mapFound maps symbol home)) (site .wide) (site .imm +ℤ pos (symbolAddress symbols s))) (is-text (symbolKind symbols s) e)))
 
         pub row-says : (symbolKind symbols s ≡ textKind → ⊥) → (address : ℕ) → address ≡ symbolAddress symbols s → (r : Verdict)
             → Says site (mapVerdict maps symbol home address site) r → Says site (rowVerdict code symbols maps s symbol site) r
         row-says d address e =
             says-same site _ _ (λ tables.
-            ap (λ a. byMap tables (read (mapRow maps) (mapFound maps symbol home)) (site .wide) (site .imm +ℤ pos a)) e
-            ∙ sym (judged tables ∙ not-text tables (read (mapRow maps) (mapFound maps symbol home)) (site .wide) (site .imm +ℤ pos (symbolAddress symbols s)) (symbolKind symbols s) d))
+            ap (λ a. byMap tables (readRow (mapRow maps) (mapFound maps symbol home)) (site .wide) (site .imm +ℤ pos a)) e
+            ∙ sym (judged tables ∙ not-text tables (readRow (mapRow maps) (mapFound maps symbol home)) (site .wide) (site .imm +ℤ pos (symbolAddress symbols s)) (symbolKind symbols s) d))
 
 -- ---- "3"
 module _ (code symbols maps : List ℕ) (symbol : ℕ) (site : Site) where

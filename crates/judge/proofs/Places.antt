@@ -21,8 +21,8 @@ use Rattle.rules.specs.Tables.{Function, MapRow, first as firstRow, base, isCod
 use Rattle.rules.specs.Maps as step
 use Rattle.rules.specs.Maps.{inside, onGrid, slotFor, orElse, mapFor, byKind, byHome, bySymbol, symbolOf, judge}
 use Rattle.rules.specs.Rows.{mostRows, mostFunctionSlots, Offered, wholeRows, orNone, kindOf, total, symbolRow, symbolKind, symbolSection, symbolAddress, functionRow, functionSlots, functionOffset, relocationRow, relocationSymbol, relocationOffset, mapRow}
-use Rattle.rules.specs.Lookups.{isCodeSection, symbolWith, mapWithSymbol, mapOfSection}
-use Rattle.rules.proofs.Searches.{read, part-inside, summed-bound}
+use Rattle.rules.specs.Lookups.{isCodeSection, symbolWith, mapWithSymbol, mapOfSection, readRow}
+use Rattle.rules.proofs.Searches.{part-inside, summed-bound}
 use Rattle.rules.proofs.Passed.{and-left, and-right, few-rows, good-function}
 use Rattle.rules.proofs.Reading.{row-is, base-is, code-is, symbol-is, map-is}
 use Rattle.rules.proofs.Writing.{decoded-at}
@@ -45,7 +45,7 @@ ltb-shift n a b = go (ltb a b) refl
     go true e = sym (lt-ltb (n + a) (n + b) (omega (arith, ltb-true a b e)))
     go false e = sym (le-ltb (n + a) (n + b) (omega (arith, ltb-false a b e)))
 
-read-or : {A : Type 0} (f : ℕ → A) (a b : Option ℕ) → orElse (read f a) (read f b) ≡ read f (orElse a b)
+read-or : {A : Type 0} (f : ℕ → A) (a b : Option ℕ) → orElse (readRow f a) (readRow f b) ≡ readRow f (orElse a b)
 read-or f none b = refl
 read-or f (some k) b = refl
 
@@ -76,8 +76,8 @@ module _ (o : Offered) (symbol : ℕ) (site : Site) (i : Insn) (call-is : site .
       ≡ byHome (tables o) h (symbolRow (o .symbols) s) symbol i (site .wide)
   home-same s none = refl
   home-same s (some home) =
-      ap (λ c. shape c (isCodeSection (o .code) home) (read (mapRow (o .maps)) (mapFound (o .maps) symbol home)) (site .imm)) call-is
-      ∙ ap (λ c. shape (isCall i) c (read (mapRow (o .maps)) (mapFound (o .maps) symbol home)) (site .imm)) (sym (code-is little o home))
+      ap (λ c. shape c (isCodeSection (o .code) home) (readRow (mapRow (o .maps)) (mapFound (o .maps) symbol home)) (site .imm)) call-is
+      ∙ ap (λ c. shape (isCall i) c (readRow (mapRow (o .maps)) (mapFound (o .maps) symbol home)) (site .imm)) (sym (code-is little o home))
       ∙ ap (λ m. shape (isCall i) (isCode (tables o) home) m (site .imm))
       (sym (map-is little o symbol home ∙ read-or (mapRow (o .maps)) (mapWithSymbol (o .maps) symbol) (mapOfSection (o .maps) home)))
       ∙ ap (shape (isCall i) (isCode (tables o) home) (mapFor (tables o) symbol home)) imm-is
@@ -87,7 +87,7 @@ module _ (o : Offered) (symbol : ℕ) (site : Site) (i : Insn) (call-is : site .
           cond (call || code) step.skipped (byKind (tables o) (kindOf (symbolKind (o .symbols) s)) m (site .wide) (imm +ℤ pos (symbolAddress (o .symbols) s)))
 
   found-same : (found : Option ℕ) → foundVerdict (o .code) (o .symbols) (o .maps) symbol site (tables o) found
-      ≡ bySymbol (tables o) (read (symbolRow (o .symbols)) found) symbol i (site .wide)
+      ≡ bySymbol (tables o) (readRow (symbolRow (o .symbols)) found) symbol i (site .wide)
   found-same none = refl
   found-same (some s) = home-same s (orNone (symbolSection (o .symbols) s))
 

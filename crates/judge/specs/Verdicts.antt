@@ -18,8 +18,7 @@ use Rattle.rules.specs.Tables.{Tables}
 use Rattle.rules.specs.Maps as step
 use Rattle.rules.specs.Maps.{orElse, change, byData, byMap, byKind}
 use Rattle.rules.specs.Rows.{rowSize, withData, orNone, kindOf, symbolSection, symbolAddress, symbolKind, mapFd, mapHasData, mapRow}
-use Rattle.rules.specs.Lookups.{Sound, isCodeSection, symbolWith, mapWithSymbol, mapOfSection}
-use Rattle.rules.proofs.Searches.{read}
+use Rattle.rules.specs.Lookups.{Sound, isCodeSection, symbolWith, mapWithSymbol, mapOfSection, readRow}
 use Rattle.insn.specs.Wide.{wideLoadIn}
 use Rattle.judge.specs.declared.Site.{Site}
 use Rattle.judge.specs.declared.Verdict.{Verdict}
@@ -49,13 +48,13 @@ abbrev pub dataVerdict : List ℕ → ℕ → ℕ → Site → Tables → step.V
 dataVerdict maps m address site tables = byData tables (eqb (mapHasData maps m) withData) (mapFd maps m) (site .imm +ℤ pos address)
 
 abbrev pub mapVerdict : List ℕ → ℕ → ℕ → ℕ → Site → Tables → step.Verdict
-mapVerdict maps symbol home address site tables = byMap tables (read (mapRow maps) (mapFound maps symbol home)) (site .wide) (site .imm +ℤ pos address)
+mapVerdict maps symbol home address site tables = byMap tables (readRow (mapRow maps) (mapFound maps symbol home)) (site .wide) (site .imm +ℤ pos address)
 
 abbrev pub homeVerdict : List ℕ → List ℕ → List ℕ → ℕ → ℕ → Site → Tables → Option ℕ → step.Verdict
 homeVerdict code symbols maps s symbol site tables none = step.skipped
 homeVerdict code symbols maps s symbol site tables (some home) =
     cond (site .call || isCodeSection code home) step.skipped
-    (byKind tables (kindOf (symbolKind symbols s)) (read (mapRow maps) (mapFound maps symbol home)) (site .wide) (site .imm +ℤ pos (symbolAddress symbols s)))
+    (byKind tables (kindOf (symbolKind symbols s)) (readRow (mapRow maps) (mapFound maps symbol home)) (site .wide) (site .imm +ℤ pos (symbolAddress symbols s)))
 
 abbrev pub rowVerdict : List ℕ → List ℕ → List ℕ → ℕ → ℕ → Site → Tables → step.Verdict
 rowVerdict code symbols maps s symbol site tables = homeVerdict code symbols maps s symbol site tables (orNone (symbolSection symbols s))

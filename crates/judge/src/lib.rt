@@ -1,10 +1,11 @@
 // One relocation tried in one function: skipped, refused, or how its slot is to be rewritten.
 use answers::refusal;
+use insn::after;
 use insn::immediate;
 use insn::insn_is_call;
+use insn::is_on_grid;
 use insn::is_wide_load;
 use insn::offset_at;
-use insn::slot_at;
 use insn::to_offset;
 use insn::to_slot;
 use insn::value;
@@ -151,12 +152,12 @@ fn by_symbol(code: &[u8], symbols: &[u8], maps: &[u8], symbol: u32, site: Site) 
 }
 
 // The slot of a function of `slots` slots, the first of them at `first` in table 6.
-fn read_site(instructions: &[u8], row: u32, slot: Slot, first: u32, slots: Slot) -> Site
-    requires { ⌜ SiteAsked (now instructions) (slot .0) first (slots .0) ⌝ }
-    ensures { λ r. ⌜ SiteAt (was instructions) row (slot .0) first (slots .0) r ⌝ }
+fn read_site(instructions: &[u8], row: u32, slot: Slot, first: Slot, slots: Slot) -> Site
+    requires { ⌜ SiteAsked (now instructions) (slot .0) (first .0) (slots .0) ⌝ }
+    ensures { λ r. ⌜ SiteAt (was instructions) row (slot .0) (first .0) (slots .0) r ⌝ }
 {
-    let here = slot_at(first + slot.0);
-    let end = slot_at(first + slots.0);
+    let here = after(first, slot);
+    let end = after(first, slots);
     let imm = immediate(instructions, here);
     let call = insn_is_call(instructions, here);
     let wide = is_wide_load(instructions, here, end);
@@ -179,11 +180,11 @@ pub fn judge(
     maps: &[u8],
     instructions: &[u8],
     row: usize,
-    first: u32,
+    first: Slot,
     k: usize,
 ) -> Verdict
-    requires { ⌜ Asked (offeredMaps code symbols functions relocations maps instructions) row first k ⌝ }
-    ensures { λ r. ⌜ Judges (lentMaps code symbols functions relocations maps instructions) row first k r ⌝ }
+    requires { ⌜ Asked (offeredMaps code symbols functions relocations maps instructions) row (first .0) k ⌝ }
+    ensures { λ r. ⌜ Judges (lentMaps code symbols functions relocations maps instructions) row (first .0) k r ⌝ }
 {
     let offset = relocation_offset(relocations, k);
     let start = function_offset(functions, row);
@@ -198,7 +199,7 @@ pub fn judge(
     }
     let slot = to_slot(at);
     let function = row as u32;
-    if at.0 % 8 != 0 {
+    if !is_on_grid(at) {
         return Verdict::Refused(refusal(Cause::InvalidRelocationOffset, function, slot.0));
     }
     let site = read_site(instructions, function, slot, first, slots);

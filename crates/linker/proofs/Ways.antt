@@ -145,21 +145,24 @@ module _ {o : Offered} {st : State} {b : Buffers} {row : ℕ} (pre : Adds o st b
         buffers-are : buffersMore o row (st .used) b ≡ buffers i f l
         buffers-are = λ j. record { image = sym (x .image-is) j; funcs = sym (x .funcs-is) j; lines = sym (x .lines-is) j }
 
-        pub next-visits : {first : ℕ} → first ≡ summed (functionSlots (o .functions)) 0 row
-            → Visits o (record { starts = set (st .starts) row (st .used .slots); used = more }) (buffers i f l) row (st .used .slots) first
-        next-visits {first} begins =
-            subst (λ y. Visits o y (buffers i f l) row (st .used .slots) first) state-is
+        pub next-visits : {start first : ℕ} → start ≡ st .used .slots → first ≡ summed (functionSlots (o .functions)) 0 row
+            → Visits o (record { starts = set (st .starts) row (st .used .slots); used = more }) (buffers i f l) row start first
+        next-visits {start} {first} at begins =
+            subst (λ n. Visits o (record { starts = set (st .starts) row (st .used .slots); used = more }) (buffers i f l) row n first) (sym at)
+            (subst (λ y. Visits o y (buffers i f l) row (st .used .slots) first) state-is
             (subst (λ y. Visits o (stateMore o row st) y row (st .used .slots) first) buffers-are
-            (add-visits pre (room-of (pre .asks .checked) row (pre .asks .row-in) (st .used) b room) (λ root s h. admitted (pre .asks .checked) row (pre .asks .row-in) h room none-strays) first begins))
+            (add-visits pre (room-of (pre .asks .checked) row (pre .asks .row-in) (st .used) b room) (λ root s h. admitted (pre .asks .checked) row (pre .asks .row-in) h room none-strays) first begins)))
 
         pub next-falls : unplaced (set (st .starts) row (st .used .slots)) < unplaced (st .starts)
         next-falls = add-falls pre (room-of (pre .asks .checked) row (pre .asks .row-in) (st .used) b room) (λ root s h. admitted (pre .asks .checked) row (pre .asks .row-in) h room none-strays)
 
-        pub next-done : (r : Step) (b′ : Buffers) → Visited o (record { starts = set (st .starts) row (st .used .slots); used = more }) (buffers i f l) row (st .used .slots) r b′ → Added o st b row r b′
-        next-done r b′ v =
+        pub next-done : (r : Step) (b′ : Buffers) {start : ℕ} → start ≡ st .used .slots
+            → Visited o (record { starts = set (st .starts) row (st .used .slots); used = more }) (buffers i f l) row start r b′ → Added o st b row r b′
+        next-done r b′ at v =
             add-done pre (room-of (pre .asks .checked) row (pre .asks .row-in) (st .used) b room) (λ root s h. admitted (pre .asks .checked) row (pre .asks .row-in) h room none-strays) r b′
             (subst (λ y. Visited o (stateMore o row st) y row (st .used .slots) r b′) (sym buffers-are)
-            (subst (λ y. Visited o y (buffers i f l) row (st .used .slots) r b′) (sym state-is) v))
+            (subst (λ y. Visited o y (buffers i f l) row (st .used .slots) r b′) (sym state-is)
+            (subst (λ n. Visited o (record { starts = set (st .starts) row (st .used .slots); used = more }) (buffers i f l) row n r b′) at v)))
 
 -- ---- relocate
 module _ {o : Offered} {st : State} {b : Buffers} {row start first : ℕ} (pre : Visits o st b row start first) where

@@ -16,7 +16,7 @@ use Rattle.rules.specs.declared.Answer.the-variants.{Done, Refused}
 use Rattle.rules.specs.declared.Cause.the-variants.{NoRoom}
 use Rattle.rules.specs.declared.Refusal as told
 use Rattle.rules.specs.declared.Table.the-variants.{Functions}
-use Rattle.rules.specs.Bytes.{little, byteAt, splice, padded, decoded, encoded}
+use Rattle.rules.specs.Bytes.{little, byteAt, splice, padded, decoded, encoded, AreBytes}
 use Rattle.rules.specs.Link as Link
 use Rattle.rules.specs.Link.{Refusal, refusal, Outcome, linked, refuses, unfinished, run, startOf, slotsOf, rootOnly, unless, visit, link}
 use Rattle.rules.specs.Tables.{Tables, functionRecordsOf, linesOf, objectOf}
@@ -28,7 +28,7 @@ use Rattle.rules.specs.Entries.{funcInfoBytes, lineInfoBytes, refusalReply, Out
 use Rattle.rules.proofs.Refusing as Refusing
 use Rattle.rules.proofs.Replies as Replies
 use Rattle.rules.proofs.Splices.{splice-length, splice-front}
-use Rattle.rules.proofs.Rounds.{Bytes, encoded-decoded}
+use Rattle.rules.proofs.Rounds.{encoded-decoded}
 use Rattle.rules.proofs.Linking.{length-run}
 use Rattle.rules.proofs.Passed.{good-function}
 use Rattle.rules.proofs.Merging.{func-bytes-length, line-bytes-length}
@@ -151,8 +151,8 @@ front-rest d n xs l e r =
     let k : length xs ≡ n = ap length (sym e) ∙ length-take-le n d l in
     sym (take-append-drop n d) ∙ ap (λ x. x ++ drop n d) e ∙ ap (λ x. xs ++ x) (r ∙ ap (λ m. replicate (length d - m) 0) (sym k))
 
-module _ {o : Offered} {root : ℕ} {st : State} {b : Buffers} {s : Link.State} (valid : Valid st b) (h : Holds o root st b s) (are : Bytes (b .image)) where
-  front-bytes : Bytes (take (8 * st .used .slots) (b .image))
+module _ {o : Offered} {root : ℕ} {st : State} {b : Buffers} {s : Link.State} (valid : Valid st b) (h : Holds o root st b s) (are : AreBytes (b .image)) where
+  front-bytes : AreBytes (take (8 * st .used .slots) (b .image))
   front-bytes k = go (decLt k (8 * st .used .slots))
     where
       go : Dec (k < 8 * st .used .slots) → byteAt (take (8 * st .used .slots) (b .image)) k < 256
@@ -227,7 +227,7 @@ module _ {o : Offered} {root : ℕ} {b : Buffers} (pre : Starts o root b) where
           go (refuses it) e = let same : refusalReply it ≡ refusedReply why = some-same (sym e ∙ bad) in ap (refusedLink (lentBy b)) same
           go unfinished a = absurd a
 
-      module _ (ok : Passed r) (are : Bytes (b′ .image)) where
+      module _ (ok : Passed r) (are : AreBytes (b′ .image)) where
         abbrev ends : Answer
         ends = Done (record { 0 = r .state .used .slots; 1 = r .state .used .funcs; 2 = r .state .used .lines })
 
@@ -298,18 +298,21 @@ module _ {o : Offered} {root : ℕ} {b : Buffers} (pre : Starts o root b) (enoug
     buffers-are : firstBuffers o root b ≡ buffers i f l
     buffers-are = λ j. record { image = sym (x .image-is) j; funcs = sym (x .funcs-is) j; lines = sym (x .lines-is) j }
 
-    pub begun-visits : {first : ℕ} → first ≡ summed (functionSlots (o .functions)) 0 root → Visits o (record { starts = noStarts; used = u }) (buffers i f l) root 0 first
-    begun-visits {first} e =
-        subst (λ y. Visits o y (buffers i f l) root 0 first) state-is (subst (λ y. Visits o (firstState o root) y root 0 first) buffers-are (root-visits pre enough first e))
+    pub begun-visits : {start first : ℕ} → start ≡ 0 → first ≡ summed (functionSlots (o .functions)) 0 root
+        → Visits o (record { starts = noStarts; used = u }) (buffers i f l) root start first
+    begun-visits {start} {first} at e =
+        subst (λ n. Visits o (record { starts = noStarts; used = u }) (buffers i f l) root n first) (sym at)
+        (subst (λ y. Visits o y (buffers i f l) root 0 first) state-is (subst (λ y. Visits o (firstState o root) y root 0 first) buffers-are (root-visits pre enough first e)))
 
-    module _ {r : Step} {b′ : Buffers} (v : Visited o (record { starts = noStarts; used = u }) (buffers i f l) root 0 r b′) where
+    module _ {r : Step} {b′ : Buffers} {start : ℕ} (at : start ≡ 0) (v : Visited o (record { starts = noStarts; used = u }) (buffers i f l) root start r b′) where
       back : Visited o (firstState o root) (firstBuffers o root b) root 0 r b′
-      back = subst (λ y. Visited o (firstState o root) y root 0 r b′) (sym buffers-are) (subst (λ y. Visited o y (buffers i f l) root 0 r b′) (sym state-is) v)
+      back = subst (λ y. Visited o (firstState o root) y root 0 r b′) (sym buffers-are) (subst (λ y. Visited o y (buffers i f l) root 0 r b′) (sym state-is)
+          (subst (λ n. Visited o (record { starts = noStarts; used = u }) (buffers i f l) root n r b′) at v))
 
       pub begun-refused : (why : told.Refusal) → refusalIn (r .judged) ≡ some (refusedReply why) → Ended o root b b′ (Refused why)
       begun-refused why e = link-refused pre enough r b′ back why e
 
-      pub begun-done : Passed r → Bytes (b′ .image) → Ended o root b b′ (Done (record { 0 = r .state .used .slots; 1 = r .state .used .funcs; 2 = r .state .used .lines }))
+      pub begun-done : Passed r → AreBytes (b′ .image) → Ended o root b b′ (Done (record { 0 = r .state .used .slots; 1 = r .state .used .funcs; 2 = r .state .used .lines }))
       begun-done ok are = link-done pre enough r b′ back ok are
 
 pub answer-refused : {a : Answer} {why : told.Refusal} → a ≡ Refused why → replyOf a .number ≡ 0 → ⊥

@@ -1,5 +1,6 @@
 // The link step (the crate's FunctionLinker): the root first, then each callee where it is first met, depth first.
 use answers::refusal;
+use insn::after;
 use insn::displacement;
 use insn::place;
 use insn::set_immediate;
@@ -57,7 +58,7 @@ fn point(image: &mut [u8], here: Slot, start: Slot, reference: bool)
         ⌝ }
     ensures { λ _. ⌜ now (image .exit) ≡ pointedTo reference (was image) (here .0) (start .0) ⌝ }
 {
-    let to = displacement(start, here);
+    let to = displacement(start, here) as i32;
     if reference {
         set_source(image, here, 4);
         set_immediate(image, here, to);
@@ -146,8 +147,8 @@ fn link_function(
         image_line_info,
         next,
         row,
-        used.slots,
-        part.slots,
+        slot_at(used.slots),
+        slot_at(part.slots),
     )
 }
 
@@ -217,23 +218,23 @@ fn relocate(
     image_line_info: &mut [u8],
     st: State,
     row: usize,
-    start: u32,
-    first: u32,
+    start: Slot,
+    first: Slot,
 ) -> Step
     requires { ⌜ Visits
         (offered code symbols functions relocations instructions «func_info» «line_info»)
         st
         (outputs image «image_func_info» «image_line_info»)
         row
-        start
-        first
+        (start .0)
+        (first .0)
         ⌝ }
     ensures { λ r. ⌜ Visited
         (lent code symbols functions relocations instructions «func_info» «line_info»)
         st
         (lentOutputs image «image_func_info» «image_line_info»)
         row
-        start
+        (start .0)
         r
         (outputs (image .exit) («image_func_info» .exit) («image_line_info» .exit))
         ⌝ }
@@ -247,7 +248,8 @@ fn relocate(
     let mut now = st;
     let mut slot: u32 = 0;
     while slot < slots {
-        let at = place(offset, slot_at(slot));
+        let here = slot_at(slot);
+        let at = place(offset, here);
         let rel = loop {
             if cur == n {
                 break Found::Nothing;
@@ -268,7 +270,7 @@ fn relocate(
             instructions,
             row,
             first,
-            slot,
+            here,
             rel,
         );
         match meaning {
@@ -304,7 +306,7 @@ fn relocate(
                 now = step.state;
                 point(
                     image,
-                    slot_at(start + slot),
+                    after(start, here),
                     slot_at(now.starts[callee] as u32),
                     reference,
                 );
@@ -390,8 +392,8 @@ fn link_checked(
         image_line_info,
         st,
         row,
-        0,
-        part.slots,
+        slot_at(0),
+        slot_at(part.slots),
     );
     let judged = step.judged;
     if let Judgement::Refused(why) = judged {

@@ -11,7 +11,7 @@ use Rattle.rules.specs.declared.Places.{Places}
 use Rattle.rules.specs.declared.Refusal as told
 use Rattle.rules.specs.declared.Table.the-variants.{Instructions}
 use Rattle.rules.specs.Link.{Refusal}
-use Rattle.rules.specs.Bytes.{little, encoded}
+use Rattle.rules.specs.Bytes.{little, encoded, AreBytes}
 use Rattle.rules.specs.Answers.{Reply, refusedReply, reply}
 use Rattle.rules.specs.Maps.{MapOutcome, mapped, allTasks, firstRefusal, unlessRefused, mapStep}
 use Rattle.rules.specs.Rows.{Offered, total, tablesOf, mapStepRefusal}
@@ -20,7 +20,7 @@ use Rattle.rules.specs.Entries.{refusalReply, byMapOutcome, unlessMapRefused, m
 use Rattle.rules.proofs.InPlace.{rewriteInPlace, appliedInPlace, mapStepInPlace}
 use Rattle.rules.proofs.Passed.{rows-rise}
 use Rattle.rules.proofs.MapsCode.{map-step-in-place}
-use Rattle.rules.proofs.Rounds.{Bytes, encoded-decoded}
+use Rattle.rules.proofs.Rounds.{encoded-decoded}
 use Rattle.judge.specs.Judged.{tables, slotsOf}
 use Rattle.maps.specs.Passes.{replied, stepRefusal, AllRewritten, stepResult, Relocated}
 use Rattle.maps.proofs.Passes.{none-replied}
@@ -51,7 +51,7 @@ module _ {o : Offered} (checked : MapChecked o) where
             instructions = sym (ap (λ x. byMapOutcome little (o .instructions) x .instructions) step);
           }
 
-  pub accepted-steps : none ≡ stepRefusal o → (count : ℕ) (after : List ℕ) → AllRewritten o count after → Bytes after
+  pub accepted-steps : none ≡ stepRefusal o → (count : ℕ) (after : List ℕ) → AllRewritten o count after → AreBytes after
       → Relocated (stepResult o) (Done (record { 0 = count; 1 = 0; 2 = 0 })) after
   unfolding stepRefusal stepResult refused rewritten
   accepted-steps e count after r bytes =

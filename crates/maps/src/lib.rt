@@ -3,6 +3,7 @@ use insn::next;
 use insn::place;
 use insn::set_immediate;
 use insn::set_source;
+use insn::slot_at;
 use judge::Verdict;
 use judge::judge;
 use rows::fields::function_offset;
@@ -84,9 +85,9 @@ fn judge_function(
     maps: &[u8],
     instructions: &[u8],
     row: usize,
-    first: u32,
+    first: Slot,
 ) -> Judgement
-    requires { ⌜ RowAsked (offeredMaps code symbols functions relocations maps instructions) row first ⌝ }
+    requires { ⌜ RowAsked (offeredMaps code symbols functions relocations maps instructions) row (first .0) ⌝ }
     ensures { λ r. ⌜ refusalIn r ≡ rowRefusal (lentMaps code symbols functions relocations maps instructions) row ⌝ }
 {
     let home = function_section(functions, row);
@@ -139,7 +140,7 @@ fn judge_all(
             maps,
             instructions,
             row,
-            first,
+            slot_at(first),
         );
         match j {
             Judgement::Refused(r) => return Judgement::Refused(r),
@@ -179,10 +180,10 @@ fn rewrite_one(
     maps: &[u8],
     instructions: &mut [u8],
     row: usize,
-    first: u32,
+    first: Slot,
     k: usize,
 ) -> u32
-    requires { ⌜ Asked (offeredMaps code symbols functions relocations maps instructions) row first k ⌝ }
+    requires { ⌜ Asked (offeredMaps code symbols functions relocations maps instructions) row (first .0) k ⌝ }
     ensures { λ r. ⌜ OneRewritten (lentMaps code symbols functions relocations maps instructions) row k r (now (instructions .exit)) ⌝ }
 {
     let v = judge(
@@ -218,9 +219,9 @@ fn rewrite_function(
     maps: &[u8],
     instructions: &mut [u8],
     row: usize,
-    first: u32,
+    first: Slot,
 ) -> u32
-    requires { ⌜ RowAsked (offeredMaps code symbols functions relocations maps instructions) row first ⌝ }
+    requires { ⌜ RowAsked (offeredMaps code symbols functions relocations maps instructions) row (first .0) ⌝ }
     ensures { λ r. ⌜ RowRewritten (lentMaps code symbols functions relocations maps instructions) row r (now (instructions .exit)) ⌝ }
 {
     let home = function_section(functions, row);
@@ -272,7 +273,7 @@ fn rewrite_all(
             maps,
             instructions,
             row,
-            first,
+            slot_at(first),
         );
         let slots = function_slots(functions, row);
         first += slots.0;

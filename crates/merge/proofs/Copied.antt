@@ -4,12 +4,11 @@ use mathlib.Core.Path.{_≡_, sym}
 use mathlib.Core.List.{List, map}
 use Prim.Native.Nat.{ℕ, _+_, _*_, _≤_}
 use lib.ListN.{length, take, drop}
-use Rattle.rules.specs.Bytes.{little}
+use Rattle.rules.specs.Bytes.{little, AreBytes}
 use Rattle.rules.specs.Rows.{functionSlots, functionFuncInfo, functionLineInfo, summed, funcInfoRow, lineInfoRow}
 use Rattle.rules.specs.Link.{run}
 use Rattle.rules.specs.Records.{startedAt, rebased, firstSlot}
 use Rattle.rules.specs.Entries.{funcInfoBytes, lineInfoBytes}
-use Rattle.rules.proofs.Rounds.{Bytes}
 use Rattle.merge.specs.Merge.{slotBytes, funcBytes, lineBytes, funcRows, lineRows}
 use Rattle.merge.proofs.Laws.{func-bytes-part, line-bytes-part}
 
@@ -28,7 +27,7 @@ module _ (functions : List ℕ) (row : ℕ) (t : List ℕ) (first count : ℕ) w
   unfolding lineBytes
   lines-moved start e f = rw (e, f)
 
-  module _ (are : Bytes t) where
+  module _ (are : AreBytes t) where
     pub funcs-copied : first ≡ summed (functionFuncInfo functions) 0 row → count ≡ functionFuncInfo functions row → 8 * (first + count) ≤ length t
         → take (8 * count) (drop (8 * first) t) ≡ funcInfoBytes little (funcRows functions t row)
     funcs-copied e f l = rw (← e, ← f) (sym (func-bytes-part t are first count l))

@@ -8,13 +8,13 @@ use native.Mathlib.Nat.{add-zero, mul-zero, mul-suc, mul-le-mul-left}
 use native.Mathlib.Numerals.{add-one}
 use lib.ListN.{length, take, drop, length-append}
 use lib.Seq.{length-take-le, take-at, drop-append-add, drop-drop, take-add, paste-zero}
-use Rattle.rules.specs.Bytes.{little, u32At, bytes4, splice}
+use Rattle.rules.specs.Bytes.{little, u32At, bytes4, splice, AreBytes}
 use Rattle.rules.specs.Link.{run}
 use Rattle.rules.specs.Tables.{FunctionRecord, LineRecord}
 use Rattle.rules.specs.Rows.{recordSlot, recordType, recordFile, recordLine, recordColumn, funcInfoRow, lineInfoRow}
 use Rattle.rules.specs.Entries.{funcInfoBytes, lineInfoBytes}
 use Rattle.rules.proofs.Linking.{length-run}
-use Rattle.rules.proofs.Rounds.{Bytes, bytes4-at, from-part}
+use Rattle.rules.proofs.Rounds.{bytes4-at, from-part}
 use Rattle.merge.specs.Merge.{pairBytes}
 
 -- ---- a splice of nothing, and one right after another
@@ -149,7 +149,7 @@ pub line-linked : (h : LineRecord → LineRecord) (f : ℕ → LineRecord) (firs
 line-linked h f first n = line-packed (map h (run f first n)) ∙ ap (packed lineOne) (map-run h f first n)
 
 -- ---- rows as they stand in a table of bytes
-module _ (t : List ℕ) (are : Bytes t) where
+module _ (t : List ℕ) (are : AreBytes t) where
   number-part : (at : ℕ) → at + 4 ≤ length t → bytes4 little (u32At little t at) ≡ take 4 (drop at t)
   number-part at l =
       let e₁ : at + 1 ≡ suc at = omega arith in

@@ -8,13 +8,12 @@ use Rattle.rules.specs.declared.Answer.{Answer}
 use Rattle.rules.specs.Faithful.{piece}
 use Rattle.rules.specs.Walk.{sourceWalk, imageWalk}
 use Rattle.rules.specs.Together.{SamePlace}
-use Rattle.rules.specs.Bytes.{little, decoded}
+use Rattle.rules.specs.Bytes.{little, decoded, AreBytes}
 use Rattle.rules.specs.Answers.{replyOf}
 use Rattle.rules.specs.Tables.{objectOf}
 use Rattle.rules.specs.Rows.{Offered, tablesOf}
 use Rattle.rules.specs.Entries.{linkEntry}
 use Rattle.rules.specs.Demand3.{usedImage}
-use Rattle.rules.proofs.Rounds.{Bytes}
 use Rattle.rules.specs.Lent.{Buffers, lentBy}
 use Rattle.linker.specs.Linker.{Outcomes}
 use Rattle.linker.proofs.Kept.{said, link-keeps-path}
@@ -22,7 +21,7 @@ use Rattle.walk.specs.Runs.{ran}
 use Rattle.walk.specs.Alike.{Alike}
 use Rattle.walk.proofs.Alike.{paths-alike}
 
-module _ (o : Offered) (root : ℕ) (b b′ : Buffers) (a : Answer) (out : Outcomes b′ a (linkEntry little o root (lentBy b))) (are : Bytes (o .instructions)) (ok : replyOf a .number ≡ 0) where
+module _ (o : Offered) (root : ℕ) (b b′ : Buffers) (a : Answer) (out : Outcomes b′ a (linkEntry little o root (lentBy b))) (are : AreBytes (o .instructions)) (ok : replyOf a .number ≡ 0) where
   pub linked-runs-alike : (answers : List Bool) (room given limit : ℕ)
       → Alike (SamePlace (piece root 0 ∷ link-keeps-path o root b b′ a out are ok .others)) (ran room given (sourceWalk (objectOf (tablesOf little o)) root answers) limit)
       (ran room given (imageWalk (decoded little (usedImage (said a b′))) answers) limit)

@@ -17,8 +17,8 @@ use Rattle.rules.specs.Faithful.{slotAt}
 use Rattle.rules.specs.Bytes.{little, slotSize, slotIn, decoded}
 use Rattle.rules.specs.Tables.{Tables, Function, Relocation, rowOf, insnOf, namedOf, relocationAt, byRelocation, objectOf}
 use Rattle.rules.specs.Rows.{mostRows, mostFunctionSlots, wholeRows, total, functionSection, functionSlots, functionOffset, functionRow, relocationRow, Offered, tablesOf}
-use Rattle.rules.specs.Lookups.{foundOf, relocationWith}
-use Rattle.rules.proofs.Searches.{read, part-inside, summed-bound}
+use Rattle.rules.specs.Lookups.{foundOf, relocationWith, readRow}
+use Rattle.rules.proofs.Searches.{part-inside, summed-bound}
 use Rattle.rules.proofs.Passed.{good-function, few-rows}
 use Rattle.rules.proofs.Reading.{row-is, base-is, relocation-is}
 use Rattle.rules.proofs.Writing.{decoded-at}
@@ -103,16 +103,16 @@ module _ {o : Offered} {row first slot : ℕ} {rel : Found} (r : Resolves o row 
       within (At k) e = relocation-found relocations (functionSection functions row) (functionOffset functions row + 8 * slot) k (sym e) .inside
 
   named-is : namedOf tables row slot
-      ≡ byRelocation tables (read (relocationRow relocations) (optionOf rel)) (functionRow functions row) slot (slotIn little instructions (first + slot))
+      ≡ byRelocation tables (readRow (relocationRow relocations) (optionOf rel)) (functionRow functions row) slot (slotIn little instructions (first + slot))
   named-is =
       ap (λ (f : Function). byRelocation tables (relocationAt tables f slot) f slot (insnOf tables row slot)) (row-is little o row (r .row-inside))
       ∙ ap (byRelocation tables (relocationAt tables (functionRow functions row) slot) (functionRow functions row) slot) (insn-at slot (r .slot-inside))
       ∙ ap (λ (o : Option Relocation). byRelocation tables o (functionRow functions row) slot (slotIn little instructions (first + slot)))
-      (relocation-is little o (functionRow functions row) slot ∙ ap (read (relocationRow relocations)) rel-found)
+      (relocation-is little o (functionRow functions row) slot ∙ ap (readRow (relocationRow relocations)) rel-found)
 
   pub meaning-is : meaning (objectOf tables) row slot
       ≡ decide (isCall (slotIn little instructions (first + slot))) (wideLoadIn instructions (first + slot) (first + functionSlots functions row))
-      (byRelocation tables (read (relocationRow relocations) (optionOf rel)) (functionRow functions row) slot (slotIn little instructions (first + slot)))
+      (byRelocation tables (readRow (relocationRow relocations) (optionOf rel)) (functionRow functions row) slot (slotIn little instructions (first + slot)))
   unfolding meaning objectOf
   meaning-is =
       ap (λ (i : Insn). decide (isCall i) (isWideLoad (objectOf tables) row slot) (namedOf tables row slot)) (insn-at slot (r .slot-inside))

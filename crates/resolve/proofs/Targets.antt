@@ -15,8 +15,7 @@ use Rattle.rules.specs.Object.{Insn, isCall, Named, nothing, unclear}
 use Rattle.rules.specs.Bytes.{little}
 use Rattle.rules.specs.Tables.{SymbolKind, other, section, functionAt, isCode, byCode, bySymbol, bySymbolRow, byRelocation, orMissing, slotsOn}
 use Rattle.rules.specs.Rows.{noneNumber, otherKind, textKind, kindOf, orNone, Offered, mapStepOffer, tablesOf, functionSection, functionOffset, functionRow, relocationSymbol, relocationSize, relocationRow, symbolRow}
-use Rattle.rules.specs.Lookups.{foundOf, functionWith, symbolWith, isCodeSection}
-use Rattle.rules.proofs.Searches.{read}
+use Rattle.rules.specs.Lookups.{foundOf, functionWith, symbolWith, isCodeSection, readRow}
 use Rattle.rules.proofs.Reading.{code-is, symbol-is, function-is}
 use Rattle.resolve.specs.Means.{optionOf, targets}
 use Rattle.resolve.proofs.Laws.{symbol-row-alike}
@@ -87,7 +86,7 @@ module _ (code functions : List ℕ) where
 -- what a slot names, by its relocation
 module _ (o : Offered) (row slot : ℕ) (i : Insn) where
   abbrev byRow : Option ℕ → Named
-  byRow k = byRelocation (tablesOf little o) (read (relocationRow (o .relocations)) k) (functionRow (o .functions) row) slot i
+  byRow k = byRelocation (tablesOf little o) (readRow (relocationRow (o .relocations)) k) (functionRow (o .functions) row) slot i
 
   pub own-call : isCall i ≡ true
       → byRow none
@@ -100,10 +99,10 @@ module _ (o : Offered) (row slot : ℕ) (i : Insn) where
 
   pub related : (k : ℕ)
       → byRow (some k)
-      ≡ bySymbolRow (targets (o .code) (o .functions)) (read (symbolRow (o .symbols)) (symbolWith (o .symbols) (relocationSymbol (o .relocations) k)))
+      ≡ bySymbolRow (targets (o .code) (o .functions)) (readRow (symbolRow (o .symbols)) (symbolWith (o .symbols) (relocationSymbol (o .relocations) k)))
       (relocationSize (o .relocations) k) (i .immediate)
   related k =
       let index = relocationSymbol (o .relocations) k in
       let size = relocationSize (o .relocations) k in
       ap (λ s. bySymbolRow (tablesOf little o) s size (i .immediate)) (symbol-is little o index)
-      ∙ symbol-row-alike o (read (symbolRow (o .symbols)) (symbolWith (o .symbols) index)) size (i .immediate)
+      ∙ symbol-row-alike o (readRow (symbolRow (o .symbols)) (symbolWith (o .symbols) index)) size (i .immediate)

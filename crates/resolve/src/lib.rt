@@ -1,12 +1,12 @@
 // The judgement of a slot: what it names by section and address, and what the link makes of that.
 use answers::refusal;
+use insn::after;
 use insn::byte_target;
 use insn::call_target;
 use insn::immediate;
 use insn::insn_is_call;
 use insn::is_wide_load;
 use insn::place;
-use insn::slot_at;
 use rows::fields::function_offset;
 use rows::fields::function_section;
 use rows::fields::function_slots;
@@ -38,8 +38,7 @@ ghost use Rattle.rules.specs.Object as object;
 ghost use Rattle.rules.specs.Tables.{section, orMissing, slotsOn, byCode, bySymbol, bySymbolRow, byRelocation, objectOf};
 ghost use Rattle.rules.specs.Rows.{wholeRows, mostAddress, kindOf, orNone, tablesOf};
 ghost use Rattle.rules.specs.Rows.{functionSection, functionOffset, functionRow, relocationSymbol, relocationSize, relocationRow, symbolRow};
-ghost use Rattle.rules.specs.Lookups.{Sound, functionWith, symbolWith};
-ghost use Rattle.rules.proofs.Searches.{read};
+ghost use Rattle.rules.specs.Lookups.{Sound, functionWith, symbolWith, readRow};
 ghost use Rattle.resolve.specs.Means.{namedOf, Means, optionOf, targets};
 ghost use Rattle.resolve.specs.Resolves.{Symbolic, Related, Names, Resolves};
 
@@ -119,13 +118,13 @@ pub fn by_symbol(
 }
 
 // A call without a relocation: its own section, from its own place.
-pub fn by_place(functions: &[u8], row: usize, slot: u32, imm: i32) -> Named
+pub fn by_place(functions: &[u8], row: usize, slot: Slot, imm: i32) -> Named
     requires { ⌜ Sound Functions (now functions) × (row < wholeRows Functions (now functions)) ⌝ }
     ensures { λ r. ⌜ namedOf r ≡ orMissing (functionWith (was functions) (functionSection (was functions) row)
-        (pos (functionOffset (was functions) row + 8 * slot) +ℤ slotsOn imm)) ⌝ }
+        (pos (functionOffset (was functions) row + 8 * slot .0) +ℤ slotsOn imm)) ⌝ }
 {
     let start = function_offset(functions, row);
-    let here = place(start, slot_at(slot));
+    let here = place(start, slot);
     by_address(
         functions,
         function_section(functions, row),
@@ -144,7 +143,7 @@ pub fn by_row(
 ) -> Named
     requires { ⌜ Related (now code) (now symbols) (now functions) (now relocations) k ⌝ }
     ensures { λ r. ⌜ namedOf r ≡ bySymbolRow (targets (was code) (was functions))
-        (read (symbolRow (was symbols)) (symbolWith (was symbols) (relocationSymbol (was relocations) k)))
+        (readRow (symbolRow (was symbols)) (symbolWith (was symbols) (relocationSymbol (was relocations) k)))
         (relocationSize (was relocations) k) imm ⌝ }
 {
     let found = find_symbol(symbols, relocation_symbol(relocations, k));
@@ -169,13 +168,13 @@ pub fn by_relocation(
     relocations: &[u8],
     instructions: &[u8],
     row: usize,
-    slot: u32,
+    slot: Slot,
     at: Slot,
     rel: Found,
 ) -> Named
     requires { ⌜ Names (offeredCode code symbols functions relocations instructions) row (at .0) rel ⌝ }
     ensures { λ r. ⌜ namedOf r ≡ byRelocation (tablesOf little (lentCode code symbols functions relocations instructions))
-        (read (relocationRow (was relocations)) (optionOf rel)) (functionRow (was functions) row) slot
+        (readRow (relocationRow (was relocations)) (optionOf rel)) (functionRow (was functions) row) (slot .0)
         (slotIn little (was instructions) (at .0)) ⌝ }
 {
     match rel {
@@ -198,15 +197,16 @@ pub fn by_relocation(
     }
 }
 
-pub fn decide(is_call: bool, is_wide: bool, named: Named, row: u32, slot: u32) -> Meaning
-    ensures { λ r. ⌜ Means row slot r (object.decide «is_call» «is_wide» (namedOf named)) ⌝ }
+pub fn decide(is_call: bool, is_wide: bool, named: Named, row: u32, slot: Slot) -> Meaning
+    ensures { λ r. ⌜ Means row (slot .0) r (object.decide «is_call» «is_wide» (namedOf named)) ⌝ }
 {
+    let place = slot.0;
     match named {
         Named::Nothing => {
             if !is_call {
                 return Meaning::Copied;
             }
-            return Meaning::Refused(refusal(Cause::NoCode, row, slot));
+            return Meaning::Refused(refusal(Cause::NoCode, row, place));
         }
         Named::Function(callee) => {
             if is_call {
@@ -215,23 +215,23 @@ pub fn decide(is_call: bool, is_wide: bool, named: Named, row: u32, slot: u32) -
             if is_wide {
                 return Meaning::Points(callee, true);
             }
-            return Meaning::Refused(refusal(Cause::NotWideLoad, row, slot));
+            return Meaning::Refused(refusal(Cause::NotWideLoad, row, place));
         }
         Named::Missing => {
-            let unknown = refusal(Cause::UnknownFunction, row, slot);
+            let unknown = refusal(Cause::UnknownFunction, row, place);
             if is_call {
                 return Meaning::Refused(unknown);
             }
             if is_wide {
                 return Meaning::Refused(unknown);
             }
-            return Meaning::Refused(refusal(Cause::NotWideLoad, row, slot));
+            return Meaning::Refused(refusal(Cause::NotWideLoad, row, place));
         }
         Named::UnknownSymbol => {
-            return Meaning::Refused(refusal(Cause::UnknownSymbol, row, slot));
+            return Meaning::Refused(refusal(Cause::UnknownSymbol, row, place));
         }
         Named::UnknownForm => {
-            return Meaning::Refused(refusal(Cause::UnknownForm, row, slot));
+            return Meaning::Refused(refusal(Cause::UnknownForm, row, place));
         }
     }
 }
@@ -243,17 +243,17 @@ pub fn resolve(
     relocations: &[u8],
     instructions: &[u8],
     row: usize,
-    first: u32,
-    slot: u32,
+    first: Slot,
+    slot: Slot,
     rel: Found,
 ) -> Meaning
-    requires { ⌜ Resolves (offeredCode code symbols functions relocations instructions) row first slot rel ⌝ }
-    ensures { λ r. ⌜ Means row slot r
-        (object.meaning (objectOf (tablesOf little (lentCode code symbols functions relocations instructions))) row slot) ⌝ }
+    requires { ⌜ Resolves (offeredCode code symbols functions relocations instructions) row (first .0) (slot .0) rel ⌝ }
+    ensures { λ r. ⌜ Means row (slot .0) r
+        (object.meaning (objectOf (tablesOf little (lentCode code symbols functions relocations instructions))) row (slot .0)) ⌝ }
 {
-    let at = slot_at(first + slot);
+    let at = after(first, slot);
     let slots = function_slots(functions, row);
-    let end = slot_at(first + slots.0);
+    let end = after(first, slots);
     let named = by_relocation(
         code,
         symbols,

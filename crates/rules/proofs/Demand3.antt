@@ -18,7 +18,7 @@ use Rattle.rules.specs.Faithful.{Piece, piece, blank, slotAt, Placed, Li
 use Rattle.rules.specs.Link.{State, Refusal, refusal, Outcome, linked, refuses, unfinished, link}
 use Rattle.rules.specs.Walk.{Walk, standing, SourcePlace, place, sourceWalk, imageWalk}
 use Rattle.rules.specs.Together.{Together, both-stand, SamePlace, KeepsPath}
-use Rattle.rules.specs.Bytes.{Order, Fits, half16, half32, decode, decoded, encoded, padded}
+use Rattle.rules.specs.Bytes.{Order, Fits, half16, half32, decode, decoded, encoded, padded, AreBytes}
 use Rattle.rules.specs.Tables.{SymbolKind, other, text, section, Tables, FunctionRecord, LineRecord, orMissing, slotsOn, rowOf, functionRecordsOf, linesOf, base, insnOf, rowAt, functionAt, bySymbol, bySymbolRow, byRelocation, objectOf, refersToCode}
 use Rattle.rules.specs.Records.{Room, imageFunctions, imageLines, roomFor, strayLine, thenStray, admits, rootAdmits, linkStep}
 use Rattle.rules.specs.Answers.{Reply, reply}
@@ -32,7 +32,7 @@ use Rattle.rules.proofs.Linking.{link-faithful}
 use Rattle.rules.proofs.Tiles.{tile-fits, tile-covers}
 use Rattle.rules.proofs.Admitted.{within-room}
 use Rattle.rules.proofs.Writing.{decoded-at, decoded-length, displacement-fits}
-use Rattle.rules.proofs.Rounds.{Bytes, Plain, AllPlain, all-plain, decode-plain, decoded-encoded, encoded-length}
+use Rattle.rules.proofs.Rounds.{Plain, AllPlain, all-plain, decode-plain, decoded-encoded, encoded-length}
 use Rattle.rules.proofs.Merging.{func-bytes-length, line-bytes-length}
 use Rattle.rules.proofs.Ending.{Finished}
 use Rattle.rules.proofs.Lookups.{tables-finish}
@@ -177,7 +177,7 @@ module _ (tables : Tables) (root : ℕ) (image : List Insn) (pieces : List Piece
 blank-plain : Plain blank
 blank-plain = record { opcode = omega arith; destination = omega arith; source = omega arith; offset = omega arith; immediate = omega arith }
 
-slot-plain : (order : Order) (bytes : List ℕ) → Bytes bytes → (k : ℕ) → Plain (slotAt (decoded order bytes) k)
+slot-plain : (order : Order) (bytes : List ℕ) → AreBytes bytes → (k : ℕ) → Plain (slotAt (decoded order bytes) k)
 slot-plain order bytes are k = go (decLt k (length bytes / 8))
   where
     go : Dec (k < length bytes / 8) → Plain (slotAt (decoded order bytes) k)
@@ -249,7 +249,7 @@ pub step-finishes : (order : Order) (o : Offered) (lent : Outputs) (root : ℕ) 
 unfolding linkStep
 step-finishes order o lent root = tables-finish (tablesOf order o) (admits (tablesOf order o) (roomIn lent) root) (rootAdmits (tablesOf order o) (roomIn lent) root) root
 
-module _ (order : Order) (o : Offered) (root : ℕ) (lent : Outputs) (are : Bytes (o .instructions)) where
+module _ (order : Order) (o : Offered) (root : ℕ) (lent : Outputs) (are : AreBytes (o .instructions)) where
   source-plain : (row slot : ℕ) → Plain (objectOf (tablesOf order o) .insn row slot)
   unfolding objectOf tablesOf
   source-plain row slot = slot-plain order (o .instructions) are (base (tablesOf order o) row + slot)

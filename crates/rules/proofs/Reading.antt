@@ -18,11 +18,11 @@ use Rattle.rules.specs.Tables.{Symbol, Function, Relocation, MapRow, Fun
 use Rattle.rules.specs.Maps as Maps
 use Rattle.rules.specs.Maps.{isSymbol, hasNone, mapFor}
 use Rattle.rules.specs.Rows.{wholeRows, firstFrom, summed, Offered, codeSection, symbolRow, functionRow, functionSlots, functionFuncInfo, functionLineInfo, relocationRow, mapRow, funcInfoRow, lineInfoRow, tablesOf}
-use Rattle.rules.specs.Lookups.{isCodeSection, symbolWith, functionWith, relocationWith, mapWithSymbol, mapOfSection}
+use Rattle.rules.specs.Lookups.{readRow, isCodeSection, symbolWith, functionWith, relocationWith, mapWithSymbol, mapOfSection}
 use Rattle.rules.proofs.Linking.{length-run, run-at}
-use Rattle.rules.proofs.Searches.{read, first-run, row-run, before-run}
+use Rattle.rules.proofs.Searches.{first-run, row-run, before-run}
 
-some-read : {A : Type 0} (f : ℕ → A) (o : Option ℕ) → isSome (read f o) ≡ isSome o
+some-read : {A : Type 0} (f : ℕ → A) (o : Option ℕ) → isSome (readRow f o) ≡ isSome o
 some-read f none = refl
 some-read f (some k) = refl
 
@@ -69,7 +69,7 @@ module _ (order : Order) (o : Offered) where
   unfolding tablesOf isCodeSection
   code-is home = ap isSome (first-run (codeSection (o .code)) (eqb home) 0 (wholeRows Code (o .code))) ∙ some-read (codeSection (o .code)) (firstFrom (λ k. eqb home (codeSection (o .code) k)) 0 (wholeRows Code (o .code)))
 
-  pub symbol-is : (index : ℕ) → first (λ s. eqb (s .index) index) (tablesOf order o .symbols) ≡ read (symbolRow (o .symbols)) (symbolWith (o .symbols) index)
+  pub symbol-is : (index : ℕ) → first (λ s. eqb (s .index) index) (tablesOf order o .symbols) ≡ readRow (symbolRow (o .symbols)) (symbolWith (o .symbols) index)
   unfolding tablesOf symbolWith
   symbol-is index = first-run (symbolRow (o .symbols)) (λ s. eqb (s .index) index) 0 (wholeRows Symbols (o .symbols))
 
@@ -78,17 +78,17 @@ module _ (order : Order) (o : Offered) where
   function-is home address = row-run (functionRow (o .functions)) (λ f. eqb (f .home) home && isAt (f .address) address) 0 (wholeRows Functions (o .functions))
 
   pub relocation-is : (f : Function) (slot : ℕ)
-      → relocationAt (tablesOf order o) f slot ≡ read (relocationRow (o .relocations)) (relocationWith (o .relocations) (f .home) (f .offset + 8 * slot))
+      → relocationAt (tablesOf order o) f slot ≡ readRow (relocationRow (o .relocations)) (relocationWith (o .relocations) (f .home) (f .offset + 8 * slot))
   unfolding tablesOf relocationWith
   relocation-is f slot = first-run (relocationRow (o .relocations)) (λ r. eqb (r .home) (f .home) && eqb (r .offset) (f .offset + 8 * slot)) 0 (wholeRows Relocations (o .relocations))
 
   pub map-is : (symbol home : ℕ) → mapFor (tablesOf order o) symbol home
-      ≡ Maps.orElse (read (mapRow (o .maps)) (mapWithSymbol (o .maps) symbol)) (read (mapRow (o .maps)) (mapOfSection (o .maps) home))
+      ≡ Maps.orElse (readRow (mapRow (o .maps)) (mapWithSymbol (o .maps) symbol)) (readRow (mapRow (o .maps)) (mapOfSection (o .maps) home))
   unfolding tablesOf mapWithSymbol mapOfSection
   map-is symbol home =
       ap (λ x. Maps.orElse x (first (λ m. eqb (m .home) home && hasNone (m .symbol)) (tablesOf order o .maps)))
       (first-run (mapRow (o .maps)) (λ m. isSymbol symbol (m .symbol)) 0 (wholeRows Maps (o .maps)))
-      ∙ ap (Maps.orElse (read (mapRow (o .maps)) (mapWithSymbol (o .maps) symbol)))
+      ∙ ap (Maps.orElse (readRow (mapRow (o .maps)) (mapWithSymbol (o .maps) symbol)))
       (first-run (mapRow (o .maps)) (λ m. eqb (m .home) home && hasNone (m .symbol)) 0 (wholeRows Maps (o .maps)))
 
   -- a row's records are a part of tables 7 and 8

@@ -14,12 +14,8 @@ use lib.Seq.{drop-cons, drop-drop, take-add, take-length}
 use Rattle.rules.specs.Object.{Insn}
 use Rattle.rules.specs.Faithful.{blank, slotAt}
 use Rattle.rules.specs.Link.{run}
-use Rattle.rules.specs.Bytes.{Order, little, big, number2, number4, byteAt, u16At, u32At, bytes2, bytes4, signed, unsigned, Fits, half16, half32, sourceOf, destinationOf, registers, decode, encode, slotSize, slotIn, decoded, encoded}
+use Rattle.rules.specs.Bytes.{Order, little, big, number2, number4, byteAt, AreBytes, u16At, u32At, bytes2, bytes4, signed, unsigned, Fits, half16, half32, sourceOf, destinationOf, registers, decode, encode, slotSize, slotIn, decoded, encoded}
 use Rattle.rules.proofs.Writing.{signed-unsigned, append-decoded}
-
--- every byte is one
-abbrev pub Bytes : List ℕ → Type 0
-Bytes bytes = (k : ℕ) → byteAt bytes k < 256
 
 pub unsigned-signed : (half n : ℕ) → n < half + half → unsigned half (signed half n) ≡ n
 unfolding signed unsigned
@@ -96,7 +92,7 @@ registers-back little byte = omega arith
 registers-back big byte = omega arith
 
 -- ---- bytes to slots to bytes
-module _ (order : Order) (bytes : List ℕ) (are : Bytes bytes) where
+module _ (order : Order) (bytes : List ℕ) (are : AreBytes bytes) where
   pub u16-below : (at : ℕ) → u16At order bytes at < 0x1_0000
   unfolding u16At
   u16-below at = number2-below order _ _ (are at) (are (at + 1))
@@ -266,7 +262,7 @@ registers-below : (order : Order) (byte : ℕ) → byte < 256 → (destinationOf
 registers-below little byte l = (omega arith, omega arith)
 registers-below big byte l = (omega arith, omega arith)
 
-pub decode-plain : (order : Order) (bytes : List ℕ) → Bytes bytes → (at : ℕ) → Plain (decode order bytes at)
+pub decode-plain : (order : Order) (bytes : List ℕ) → AreBytes bytes → (at : ℕ) → Plain (decode order bytes at)
 unfolding decode
 decode-plain order bytes are at = record {
   opcode = are at;

@@ -14,7 +14,7 @@ use lib.ListN.{length, getD}
 use Rattle.rules.specs.Link.{run}
 use Rattle.rules.specs.Tables.{first, firstRow, before, Function, Before}
 use Rattle.rules.specs.Rows.{firstFrom, summed, anyFrom}
-use Rattle.rules.specs.Lookups.{Rising, RisingPair}
+use Rattle.rules.specs.Lookups.{readRow, Rising, RisingPair}
 
 -- ---- a search for the first row that passes, k of n rows looked at
 module _ (test : ℕ → Bool) (k n : ℕ) where
@@ -92,17 +92,13 @@ module _ (test : ℕ → Bool) where
       go false t e later (inr less) = later e less m
 
 -- ---- rows as a list
-abbrev pub read {ℓ} : {A : Type ℓ} → (ℕ → A) → Option ℕ → Option A
-read f none = none
-read f (some k) = some (f k)
-
 module _ {A : Type 0} (f : ℕ → A) (test : A → Bool) where
-  pub first-run : (from n : ℕ) → first test (run f from n) ≡ read f (firstFrom (λ k. test (f k)) from n)
+  pub first-run : (from n : ℕ) → first test (run f from n) ≡ readRow f (firstFrom (λ k. test (f k)) from n)
   first-run from zero = refl
   first-run from (suc n) = go (test (f from)) (first-run (suc from) n)
     where
-      go : (b : Bool) → first test (run f (suc from) n) ≡ read f (firstFrom (λ k. test (f k)) (suc from) n)
-          → cond b (some (f from)) (first test (run f (suc from) n)) ≡ read f (cond b (some from) (firstFrom (λ k. test (f k)) (suc from) n))
+      go : (b : Bool) → first test (run f (suc from) n) ≡ readRow f (firstFrom (λ k. test (f k)) (suc from) n)
+          → cond b (some (f from)) (first test (run f (suc from) n)) ≡ readRow f (cond b (some from) (firstFrom (λ k. test (f k)) (suc from) n))
       go true e = refl
       go false e = e
 

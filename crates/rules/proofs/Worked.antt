@@ -6,10 +6,11 @@ use mathlib.Core.List.{List, [], _∷_, _++_, map}
 use Prim.Native.Nat.{ℕ, zero, suc, _+_, _*_, _/_, _%_}
 use lib.IntN.{ℤ, pos, negsuc}
 use lib.ListN.{length, replicate}
+use Rattle.rules.specs.declared.Table.the-variants.{FuncInfo, LineInfo}
 use Rattle.rules.specs.declared.Kind.{Kind}
 use Rattle.rules.specs.declared.Kind.the-variants.{Plain, WideLoad, JumpByOffset, JumpByImmediate, Conditional, CallByte, Exit, Unknown}
 use Rattle.rules.specs.Object.{isCall, isBlank, isWideLoad, refused, decide, meaning, displacement, calling, referring}
-use Rattle.rules.specs.Link.{visit, append, link}
+use Rattle.rules.specs.Link.{run, visit, append, link}
 use Rattle.rules.specs.Bytes.{little, u16At, u32At, u64At, bytes4, signed, unsigned, decode, encode, decoded, encoded, padded}
 use Rattle.rules.specs.Answers.{Reply, reply}
 use Rattle.rules.specs.Tables.{objectOf}
@@ -17,6 +18,7 @@ use Rattle.rules.specs.Records.{imageFunctions, imageLines, roomFor, str
 use Rattle.rules.specs.Maps.{judge, firstRefusal, applied, rewriteAll, mapStep}
 use Rattle.rules.specs.Rows.{noneNumber, Offered, codeSection, symbolIndex, symbolSection, symbolAddress, symbolKind, functionSection, functionSlots, functionAddress, functionOffset, functionFuncInfo, functionLineInfo, relocationSection, relocationSymbol, relocationOffset, relocationSize, mapSection, mapSymbol, mapFd, mapHasData, recordSlot, recordType, recordFile, recordLine, recordColumn, isGood, firstBroken, total, tooMany, brokenIn, broken, mapStepRefusal, linkRefusal, tablesOf}
 use Rattle.rules.specs.Entries.{MapResult, mapEntry, Outputs, LinkResult, linkEntry}
+use Rattle.rules.specs.Readers.{Info, isWhole, Read, readRecords, recordPart, recordReply}
 use Rattle.rules.specs.Walk.{kind, leads, inSource, inImage, Walk, standing, stopped, ended, left, SourcePlace, place, sourceWalk, imageWalk}
 
 -- ---- rows as bytes
@@ -150,7 +152,8 @@ lined slots =
     offer (u32 1 ∷ u32 2 ∷ []) (symbol 7 1 0 2 ∷ []) (function 1 2 0 80 0 (length slots) ∷ function 2 3 0 0 0 1 ∷ []) (relocation 2 7 0 32 ∷ [])
     (exit ∷ exit ∷ call minusOne ∷ exit ∷ exit ∷ []) [] (lineInfos slots ∷ lineInfo 5 ∷ [])
 
--- ---- map steps: a function of 3 slots, its slot 0 relocated to a symbol of section 5 that has a map, fd 7
+-- ---- map steps: a function of 3 slots, its slot 0 relocated to a symbol of section 5 that has a map, fd 7. The next slot's own immediate
+-- is 33, so that keeping it is seen
 
 abbrev mapOffer : ℕ → ℕ → ℕ → Offered
 mapOffer immediate address hasData = record {
@@ -159,7 +162,7 @@ mapOffer immediate address hasData = record {
   functions = function 1 3 0 0 0 0;
   relocations = relocation 1 9 0 64;
   maps = aMap 5 9 7 hasData;
-  instructions = joined (wide 0x01 immediate ∷ second 0 ∷ exit ∷ []);
+  instructions = joined (wide 0x01 immediate ∷ second 33 ∷ exit ∷ []);
   funcInfo = [];
   lineInfo = [];
 }
@@ -228,10 +231,10 @@ pub worked : (
     ∷ seen (reply 0 4 2 0) (held ((0x18 ∷ 0x41 ∷ 0 ∷ 0 ∷ 2 ∷ 0 ∷ 0 ∷ 0 ∷ []) ∷ second 0 ∷ exit ∷ exit ∷ []) ∷ held (funcInfo 0 12 ∷ funcInfo 3 11 ∷ []) ∷ zeros 2 ∷ [])
     -- `18 21 00 00 07 00 00 00`, next immediate 20; no data: `18 11`, next slot kept
     ∷ seen (reply 0 1 0 0) (joined ((0x18 ∷ 0x21 ∷ 0 ∷ 0 ∷ 7 ∷ 0 ∷ 0 ∷ 0 ∷ []) ∷ second 20 ∷ exit ∷ []) ∷ [])
-    ∷ seen (reply 0 1 0 0) (joined ((0x18 ∷ 0x11 ∷ 0 ∷ 0 ∷ 7 ∷ 0 ∷ 0 ∷ 0 ∷ []) ∷ second 0 ∷ exit ∷ []) ∷ [])
+    ∷ seen (reply 0 1 0 0) (joined ((0x18 ∷ 0x11 ∷ 0 ∷ 0 ∷ 7 ∷ 0 ∷ 0 ∷ 0 ∷ []) ∷ second 33 ∷ exit ∷ []) ∷ [])
     -- address 7 passes, 8 gives 7
     ∷ seen (reply 0 1 0 0) (joined (wide 0x21 7 ∷ second 2147483647 ∷ exit ∷ []) ∷ [])
-    ∷ seen (reply 7 0 0 0) (joined (wide 0x01 2147483640 ∷ second 0 ∷ exit ∷ []) ∷ [])
+    ∷ seen (reply 7 0 0 0) (joined (wide 0x01 2147483640 ∷ second 33 ∷ exit ∷ []) ∷ [])
     -- 3, 3, 4; a 12 or 9 after the 10 gives 12
     ∷ seen (reply 0 5 0 4) (held (call 2 ∷ exit ∷ exit ∷ exit ∷ exit ∷ []) ∷ zeros 2 ∷ held (lineInfo 5 ∷ lineInfo 3 ∷ lineInfo 3 ∷ lineInfo 4 ∷ []) ∷ [])
     ∷ seen (reply 12 0 1 0) (zeros 42 ∷ zeros 2 ∷ zeros 66 ∷ [])
@@ -243,6 +246,107 @@ unfolding isCall isBlank isWideLoad decide meaning displacement calling referrin
     judge firstRefusal applied rewriteAll mapStep codeSection symbolIndex symbolSection symbolAddress symbolKind functionSection functionSlots functionAddress functionOffset functionFuncInfo functionLineInfo relocationSection relocationSymbol relocationOffset relocationSize mapSection mapSymbol mapFd mapHasData recordSlot recordType recordFile recordLine recordColumn
     isGood firstBroken total tooMany brokenIn broken mapStepRefusal linkRefusal tablesOf mapEntry linkEntry kind
 worked = refl
+
+-- ---- which refusal comes first
+
+-- a relocation off the 8-byte grid, in slot 1, whose symbol is not in table 2: 4, before 3
+abbrev offGrid : Offered
+offGrid = record {
+  code = u32 1;
+  symbols = [];
+  functions = function 1 2 0 0 0 0;
+  relocations = relocation 1 9 12 64;
+  maps = [];
+  instructions = joined (exit ∷ exit ∷ []);
+  funcInfo = [];
+  lineInfo = [];
+}
+
+-- the callee's second line record is outside, and there is room for one of its two only: 11, before 12; with room it is 12. The root's
+-- own records, 5 and then 1, "meet no 12"
+abbrev strays : List ℕ → List ℕ → Offered
+strays callee root =
+    offer (u32 1 ∷ u32 2 ∷ []) (symbol 7 1 0 2 ∷ []) (function 1 2 0 80 0 (length callee) ∷ function 2 3 0 0 0 (length root) ∷ []) (relocation 2 7 0 32 ∷ [])
+    (exit ∷ exit ∷ call minusOne ∷ exit ∷ exit ∷ []) [] (lineInfos callee ∷ lineInfos root ∷ [])
+
+-- the object of one callee with 65 code sections, or with a byte too few in table 2; and a root that is no row: 1, before 2, before 13
+abbrev spoiled : List (List ℕ) → List (List ℕ) → Offered
+spoiled code symbols =
+    offer code symbols (function 1 1 0 0 1 0 ∷ function 2 3 0 0 1 0 ∷ []) (relocation 2 7 0 32 ∷ []) (exit ∷ call minusOne ∷ exit ∷ exit ∷ [])
+    (funcInfo 0 11 ∷ funcInfo 0 12 ∷ []) []
+
+pub ordered : (
+    linkSeen (linkEntry little (spoiled (run u32 0 65) (zeros 23 ∷ [])) 9 (lent 1 1 1))
+    ∷ linkSeen (linkEntry little (spoiled (u32 1 ∷ []) (zeros 23 ∷ [])) 9 (lent 1 1 1))
+    ∷ linkSeen (linkEntry little (spoiled (u32 1 ∷ []) (symbol 7 1 0 2 ∷ [])) 9 (lent 1 1 1))
+    ∷ mapSeen (mapEntry little offGrid)
+    ∷ linkSeen (linkEntry little (strays (10 ∷ 9 ∷ []) (5 ∷ [])) 1 (lent 5 0 2))
+    ∷ linkSeen (linkEntry little (strays (10 ∷ 9 ∷ []) (5 ∷ [])) 1 (lent 5 0 3))
+    ∷ linkSeen (linkEntry little (strays [] (5 ∷ 1 ∷ [])) 1 (lent 5 0 2))
+    ∷ [])
+    ≡ (
+    seen (reply 1 1 0 0) (zeros 10 ∷ zeros 10 ∷ zeros 18 ∷ [])
+    ∷ seen (reply 2 2 0 0) (zeros 10 ∷ zeros 10 ∷ zeros 18 ∷ [])
+    ∷ seen (reply 13 0 0 0) (zeros 10 ∷ zeros 10 ∷ zeros 18 ∷ [])
+    ∷ seen (reply 4 0 1 0) (joined (exit ∷ exit ∷ []) ∷ [])
+    ∷ seen (reply 11 0 0 0) (zeros 42 ∷ zeros 2 ∷ zeros 34 ∷ [])
+    ∷ seen (reply 12 0 1 0) (zeros 42 ∷ zeros 2 ∷ zeros 50 ∷ [])
+    ∷ seen (reply 0 5 0 2) (held (call 2 ∷ exit ∷ exit ∷ exit ∷ exit ∷ []) ∷ zeros 2 ∷ held (lineInfo 5 ∷ lineInfo 1 ∷ []) ∷ [])
+    ∷ [])
+unfolding isCall isBlank isWideLoad decide meaning displacement calling referring visit append link
+    u16At u32At u64At signed unsigned decode encode decoded encoded padded objectOf imageFunctions imageLines roomFor strayLine admits linkStep
+    judge firstRefusal applied rewriteAll mapStep codeSection symbolIndex symbolSection symbolAddress symbolKind functionSection functionSlots functionAddress functionOffset functionFuncInfo functionLineInfo relocationSection relocationSymbol relocationOffset relocationSize mapSection mapSymbol mapFd mapHasData recordSlot recordType recordFile recordLine recordColumn
+    isGood firstBroken total tooMany brokenIn broken mapStepRefusal linkRefusal tablesOf mapEntry linkEntry kind
+ordered = refl
+
+-- ---- record readers
+
+abbrev info : ℕ → ℕ → List (List ℕ) → Info
+info size count records = record { size = size; count = count; bytes = joined records }
+
+abbrev readSeen : Read → Seen
+readSeen r = seen (r .reply) (r .out ∷ [])
+
+-- record k as a part, and its number
+abbrev partSeen : Info → ℕ → Seen
+partSeen i k = seen (recordReply little FuncInfo i k) (recordPart little FuncInfo i k ∷ [])
+
+-- two function records with a tail of a byte each
+abbrev tailed : Info
+tailed = info 9 2 (funcInfo 16 5 ∷ (99 ∷ []) ∷ funcInfo 8 6 ∷ (98 ∷ []) ∷ [])
+
+pub read-worked : (
+    -- "Size 7: 14; count 0, no data: done"
+    readSeen (readRecords little FuncInfo (info 7 0 []) 4)
+    ∷ readSeen (readRecords little FuncInfo (info 8 0 []) 4)
+    -- "A longer record's tail is ignored"; zero after the rows
+    ∷ readSeen (readRecords little FuncInfo tailed 18)
+    ∷ readSeen (readRecords little LineInfo (info 16 1 (lineInfo 24 ∷ [])) 16)
+    -- an offset off the grid, a count that is not the length's, a short output; 14 where 11 would come too
+    ∷ readSeen (readRecords little FuncInfo (info 8 1 (funcInfo 4 5 ∷ [])) 8)
+    ∷ readSeen (readRecords little FuncInfo (info 8 2 (funcInfo 8 5 ∷ [])) 16)
+    ∷ readSeen (readRecords little FuncInfo (info 8 1 (funcInfo 8 5 ∷ [])) 7)
+    ∷ readSeen (readRecords little FuncInfo (info 8 1 (funcInfo 4 5 ∷ [])) 7)
+    -- "record k, tail included"; "k too large is 14"; "the same 14 checks"
+    ∷ partSeen tailed 1
+    ∷ partSeen tailed 2
+    ∷ partSeen (info 8 1 (funcInfo 4 5 ∷ [])) 0
+    ∷ [])
+    ≡ (
+    seen (reply 14 0 0 0) (zeros 4 ∷ [])
+    ∷ seen (reply 0 0 0 0) (zeros 4 ∷ [])
+    ∷ seen (reply 0 2 0 0) (held (funcInfo 2 5 ∷ funcInfo 1 6 ∷ []) ∷ [])
+    ∷ seen (reply 0 1 0 0) (lineInfo 3 ∷ [])
+    ∷ seen (reply 14 0 0 0) (zeros 8 ∷ [])
+    ∷ seen (reply 14 0 0 0) (zeros 16 ∷ [])
+    ∷ seen (reply 11 0 0 0) (zeros 7 ∷ [])
+    ∷ seen (reply 14 0 0 0) (zeros 7 ∷ [])
+    ∷ seen (reply 0 2 0 0) ((funcInfo 8 6 ++ (98 ∷ [])) ∷ [])
+    ∷ seen (reply 14 0 0 0) ([] ∷ [])
+    ∷ seen (reply 14 0 0 0) ([] ∷ [])
+    ∷ [])
+unfolding u32At padded isWhole readRecords recordPart recordReply
+read-worked = refl
 
 -- ---- walks: the nested object in its tables and in its image, and one image for each kind of move
 

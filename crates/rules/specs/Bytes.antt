@@ -30,6 +30,10 @@ number8 big high low = low + 0x1_0000_0000 * high
 abbrev pub byteAt : List ℕ → ℕ → ℕ
 byteAt bytes at = getD bytes at 0
 
+-- every number of them is a byte
+abbrev pub AreBytes : List ℕ → Type 0
+AreBytes bytes = (k : ℕ) → byteAt bytes k < 256
+
 -- a u16, a u32, a u64 from the place `at` on
 unfoldable pub u16At : Order → List ℕ → ℕ → ℕ
 u16At order bytes at = number2 order (byteAt bytes at) (byteAt bytes (at + 1))

@@ -20,6 +20,11 @@ abbrev pub foundOf : Option ℕ → Found
 foundOf none = Nothing
 foundOf (some k) = At k
 
+-- the row that a lookup found, read
+abbrev pub readRow {ℓ} : {A : Type ℓ} → (ℕ → A) → Option ℕ → Option A
+readRow row none = none
+readRow row (some k) = some (row k)
+
 -- a table that neither 1 nor 2 refuses
 pub record Sound (table : Table) (t : List ℕ) : Type 0 where
   pub few : isTooMany table t ≡ false

@@ -1,4 +1,5 @@
 // The source walk of demand 3: over the functions of the tables, each callee found by section and address.
+use insn::after;
 use insn::kinds::table;
 use insn::place;
 use insn::slot_at;
@@ -11,6 +12,7 @@ use rows::find::find_relocation;
 use rules::Found;
 use rules::Judgement;
 use rules::Refusal;
+use rules::Slot;
 use rules::limits::FUNCTION_SIZE;
 use tables::checks::check_map_step;
 use tables::checks::or_no_root;
@@ -72,9 +74,9 @@ pub fn slots_of(functions: &[u8], row: usize) -> u32
 }
 
 // Where a row's slots begin in table 6.
-pub fn first_slot(functions: &[u8], row: usize) -> u32
+pub fn first_slot(functions: &[u8], row: usize) -> Slot
     requires { ⌜ Sound Functions (now functions) × (row < wholeRows Functions (now functions)) ⌝ }
-    ensures { λ r. ⌜ r ≡ summed (functionSlots (was functions)) 0 row ⌝ }
+    ensures { λ r. ⌜ r .0 ≡ summed (functionSlots (was functions)) 0 row ⌝ }
 {
     let mut first: u32 = 0;
     let mut k = 0;
@@ -83,7 +85,7 @@ pub fn first_slot(functions: &[u8], row: usize) -> u32
         first += slots.0;
         k += 1;
     }
-    first
+    slot_at(first)
 }
 
 // The row that a call at this slot enters.
@@ -94,13 +96,13 @@ pub fn callee(
     relocations: &[u8],
     instructions: &[u8],
     row: usize,
-    first: u32,
-    slot: u32,
+    first: Slot,
+    slot: Slot,
 ) -> Found
-    requires { ⌜ Slotted (offeredCode code symbols functions relocations instructions) row first slot ⌝ }
-    ensures { λ r. ⌜ r ≡ calledBy (object.meaning (objectIn (lentCode code symbols functions relocations instructions)) row slot) ⌝ }
+    requires { ⌜ Slotted (offeredCode code symbols functions relocations instructions) row (first .0) (slot .0) ⌝ }
+    ensures { λ r. ⌜ r ≡ calledBy (object.meaning (objectIn (lentCode code symbols functions relocations instructions)) row (slot .0)) ⌝ }
 {
-    let at = place(function_offset(functions, row), slot_at(slot));
+    let at = place(function_offset(functions, row), slot);
     let rel = find_relocation(relocations, function_section(functions, row), at);
     let meaning = resolve(
         code,
@@ -151,14 +153,15 @@ pub fn move_at(
     relocations: &[u8],
     instructions: &[u8],
     row: usize,
-    first: u32,
-    slot: u32,
+    first: Slot,
+    slot: Slot,
 ) -> SourceMove
     requires { ⌜ Source (now kinds) (offeredCode code symbols functions relocations instructions)
-        × Slotted (offeredCode code symbols functions relocations instructions) row first slot ⌝ }
-    ensures { λ r. ⌜ moveFrom row r ≡ inSource (objectIn (lentCode code symbols functions relocations instructions)) (walks.place row (pos slot)) ⌝ }
+        × Slotted (offeredCode code symbols functions relocations instructions) row (first .0) (slot .0) ⌝ }
+    ensures { λ r. ⌜ moveFrom row r
+        ≡ inSource (objectIn (lentCode code symbols functions relocations instructions)) (walks.place row (pos (slot .0))) ⌝ }
 {
-    let led = leads_at(kinds, instructions, slot_at(first + slot), slot);
+    let led = leads_at(kinds, instructions, after(first, slot), slot);
     match led {
         Move::Outside => {
             return SourceMove::Outside;
@@ -219,7 +222,7 @@ pub fn source_move(
                 instructions,
                 row,
                 first_slot(functions, row),
-                k as u32,
+                slot_at(k as u32),
             );
         }
     }

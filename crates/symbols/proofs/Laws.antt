@@ -19,7 +19,7 @@ use Rattle.rules.proofs.Splices.{splice-front, splice-rest, splice-length, one-
 use Rattle.rules.proofs.Writing.{u32-same}
 use Rattle.rows.specs.Matches.{symbolMatches}
 use Rattle.symbols.specs.declared.Symbol.{Symbol}
-use Rattle.symbols.specs.Symbols.{bytes8, rowBytes, bytesOf, rowsNeeded, bytesNeeded, rowsLaid, laidIn}
+use Rattle.symbols.specs.Symbols.{bytes8, rowBytes, bytesOf, rowsNeeded, rowsRoom, laidIn}
 
 -- past the last row
 abbrev pub noSymbol : Symbol
@@ -114,26 +114,20 @@ needed-few count = go (ltb (suc (mostRows Symbols)) count) refl
     go true e = omega (arith, ltb-true (suc (mostRows Symbols)) count e)
     go false e = omega arith
 
-laid-few : (count room : ℕ) → rowsLaid count room ≤ count
-unfolding rowsLaid
-laid-few count room = go (ltb room (bytesNeeded count))
+pub needed-most : (count : ℕ) → rowsNeeded count ≤ suc (mostRows Symbols)
+needed-most count = go (ltb (suc (mostRows Symbols)) count) refl
   where
-    go : (a : Bool) → cond a 0 (rowsNeeded count) ≤ count
-    go true = omega arith
-    go false = needed-few count
-
-laid-fits : (count room : ℕ) → rowSize Symbols * rowsLaid count room ≤ room
-unfolding rowsLaid
-laid-fits count room = go (ltb room (bytesNeeded count)) refl
-  where
-    go : (a : Bool) → ltb room (bytesNeeded count) ≡ a → rowSize Symbols * cond a 0 (rowsNeeded count) ≤ room
+    go : (b : Bool) → ltb (suc (mostRows Symbols)) count ≡ b → cond b (suc (mostRows Symbols)) count ≤ suc (mostRows Symbols)
     go true e = omega arith
-    go false e = ltb-false room (bytesNeeded count) e
+    go false e = ltb-false (suc (mostRows Symbols)) count e
 
--- how the rows are laid, i of them done
+-- how the rows are laid into a room for the most, i of them done
 module _ (ys : List Symbol) (zs : List ℕ) where
+  abbrev needed : ℕ
+  needed = rowsNeeded (length ys)
+
   pub record Laid (i : ℕ) (t : List ℕ) : Type 0 where
-    pub inside : i ≤ rowsLaid (length ys) (length zs)
+    pub inside : i ≤ needed
     pub long : length t ≡ length zs
     pub same : t ≡ splice zs 0 (bytesOf (take i ys))
 
@@ -141,44 +135,35 @@ module _ (ys : List Symbol) (zs : List ℕ) where
   unfolding splice bytesOf
   lay-start = record { inside = omega arith; long = refl; same = refl }
 
-  module _ (i : ℕ) (t : List ℕ) (so-far : Laid i t) (l : i < rowsLaid (length ys) (length zs)) where
-    pub row-there : i < length ys
-    row-there = omega (arith, laid-few (length ys) (length zs))
+  module _ (room : rowsRoom ≤ length zs) where
+    module _ (i : ℕ) (t : List ℕ) (so-far : Laid i t) (l : i < needed) where
+      pub row-there : i < length ys
+      row-there = omega (arith, needed-few (length ys))
 
-    pub row-fits : rowSize Symbols * i + rowSize Symbols ≤ length t
-    row-fits = omega (arith, laid-fits (length ys) (length zs), so-far .long)
+      pub row-fits : rowSize Symbols * i + rowSize Symbols ≤ length t
+      row-fits = omega (arith, needed-most (length ys), so-far .long)
 
-    pub lay-on : (u : List ℕ) → length u ≡ length t → u ≡ splice t (rowSize Symbols * i) (rowBytes (getD ys i noSymbol)) → Laid (i + 1) u
-    lay-on u n e = record {
-      inside = omega arith;
-      long = n ∙ so-far .long;
-      same = e
-          ∙ ap (λ (x : List ℕ). splice x (rowSize Symbols * i) (rowBytes (getD ys i noSymbol))) (so-far .same)
-          ∙ splice-on zs 0 (rowSize Symbols * i) (bytesOf (take i ys)) (rowBytes (getD ys i noSymbol))
-          (omega (arith, bytes-length (take i ys), length-take-le i ys (omega (arith, row-there))))
-          (omega (arith, row-fits, so-far .long, row-length (getD ys i noSymbol)))
-          ∙ ap (splice zs 0) (sym (bytes-snoc (take i ys) (getD ys i noSymbol)) ∙ ap bytesOf (sym (take-suc ys i noSymbol row-there) ∙ ap (λ (k : ℕ). take k ys) (sym (add-one i))));
-    }
+      pub lay-on : (u : List ℕ) → length u ≡ length t → u ≡ splice t (rowSize Symbols * i) (rowBytes (getD ys i noSymbol)) → Laid (i + 1) u
+      lay-on u n e = record {
+        inside = omega arith;
+        long = n ∙ so-far .long;
+        same = e
+            ∙ ap (λ (x : List ℕ). splice x (rowSize Symbols * i) (rowBytes (getD ys i noSymbol))) (so-far .same)
+            ∙ splice-on zs 0 (rowSize Symbols * i) (bytesOf (take i ys)) (rowBytes (getD ys i noSymbol))
+            (omega (arith, bytes-length (take i ys), length-take-le i ys (omega (arith, row-there))))
+            (omega (arith, row-fits, so-far .long, row-length (getD ys i noSymbol)))
+            ∙ ap (splice zs 0) (sym (bytes-snoc (take i ys) (getD ys i noSymbol)) ∙ ap bytesOf (sym (take-suc ys i noSymbol row-there) ∙ ap (λ (k : ℕ). take k ys) (sym (add-one i))));
+      }
 
-  pub lay-end : (i : ℕ) (t : List ℕ) → Laid i t → rowsLaid (length ys) (length zs) ≤ i → t ≡ laidIn ys zs
+  pub lay-end : (i : ℕ) (t : List ℕ) → Laid i t → needed ≤ i → t ≡ laidIn ys zs
   unfolding laidIn
   lay-end i t so-far h =
-      let e : i ≡ rowsLaid (length ys) (length zs) = omega (arith, so-far .inside) in
+      let e : i ≡ needed = omega (arith, so-far .inside) in
       so-far .same ∙ ap (λ (k : ℕ). splice zs 0 (bytesOf (take k ys))) e
 
-  lay-long : 0 + length (bytesOf (take (rowsLaid (length ys) (length zs)) ys)) ≤ length zs
-  lay-long =
-      let k = rowsLaid (length ys) (length zs) in
-      omega (arith, bytes-length (take k ys), length-take-le k ys (laid-few (length ys) (length zs)), laid-fits (length ys) (length zs))
-
-  pub laid-length : length (laidIn ys zs) ≡ length zs
+  -- the rows needed stand at the front
+  pub laid-front : take (rowSize Symbols * needed) (laidIn ys zs) ≡ bytesOf (take needed ys)
   unfolding laidIn
-  laid-length = splice-length zs 0 (bytesOf (take (rowsLaid (length ys) (length zs)) ys)) lay-long
-
-  -- where they fit, the rows needed stand at the front
-  pub laid-front : ltb (length zs) (bytesNeeded (length ys)) ≡ false → take (bytesNeeded (length ys)) (laidIn ys zs) ≡ bytesOf (take (rowsNeeded (length ys)) ys)
-  unfolding laidIn rowsLaid
-  laid-front e =
-      ap (λ (t : Bool). take (bytesNeeded (length ys)) (splice zs 0 (bytesOf (take (cond t 0 (rowsNeeded (length ys))) ys)))) e
-      ∙ splice-front zs 0 (bytesOf (take (rowsNeeded (length ys)) ys)) (bytesNeeded (length ys))
-      (omega (arith, bytes-length (take (rowsNeeded (length ys)) ys), length-take-le (rowsNeeded (length ys)) ys (needed-few (length ys)))) (omega arith)
+  laid-front =
+      splice-front zs 0 (bytesOf (take needed ys)) (rowSize Symbols * needed)
+      (omega (arith, bytes-length (take needed ys), length-take-le needed ys (needed-few (length ys)))) (omega arith)

@@ -28,13 +28,10 @@ bytesOf (s ∷ ss) = rowBytes s ++ bytesOf ss
 abbrev pub rowsNeeded : ℕ → ℕ
 rowsNeeded count = cond (ltb (suc (mostRows Symbols)) count) (suc (mostRows Symbols)) count
 
-abbrev pub bytesNeeded : ℕ → ℕ
-bytesNeeded count = rowSize Symbols * rowsNeeded count
-
--- all of those, or none where they do not fit
-unfoldable pub rowsLaid : ℕ → ℕ → ℕ
-rowsLaid count room = cond (ltb room (bytesNeeded count)) 0 (rowsNeeded count)
+-- room for the most of them
+abbrev pub rowsRoom : ℕ
+rowsRoom = rowSize Symbols * suc (mostRows Symbols)
 
 -- what a lent buffer holds with them laid out: the rest is as it was
 unfoldable pub laidIn : List Symbol → List ℕ → List ℕ
-laidIn rows out = splice out 0 (bytesOf (take (rowsLaid (length rows) (length out)) rows))
+laidIn rows out = splice out 0 (bytesOf (take (rowsNeeded (length rows)) rows))

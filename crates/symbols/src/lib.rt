@@ -5,14 +5,14 @@ use rules::limits::SYMBOL_SIZE;
 use wire::copy;
 use wire::put_u32;
 ghost use mathlib.Core.Path.{_≡_};
-ghost use Prim.Native.Nat.{suc, _+_, _*_, _≤_};
+ghost use Prim.Native.Nat.{_+_, _*_, _≤_};
 ghost use lib.ListN.{length};
 ghost use Rattle.rules.specs.declared.Table.the-variants.{Symbols};
 ghost use Rattle.rules.specs.Bytes.{splice};
 ghost use Rattle.rules.specs.Lent.{was};
-ghost use Rattle.rules.specs.Rows.{rowSize, mostRows};
+ghost use Rattle.rules.specs.Rows.{rowSize};
 ghost use Rattle.rules.specs.Lookups.{foundOf, symbolWith};
-ghost use Rattle.symbols.specs.Symbols.{bytes8, rowBytes, bytesOf, rowsNeeded, rowsLaid, laidIn};
+ghost use Rattle.symbols.specs.Symbols.{bytes8, rowBytes, bytesOf, rowsNeeded, rowsRoom, laidIn};
 
 // A row of table 2. C's layout of it on a little-endian host is the row's bytes.
 #[repr(C)]
@@ -48,25 +48,17 @@ pub fn put_row(out: &mut [u8], k: usize, s: Symbol)
     copy(out, at + 17, &padding, 0, PADDING);
 }
 
+// Room for as many rows as a link has to see.
+pub const ROWS_ROOM: usize = SYMBOL_SIZE * (MOST_SYMBOLS + 1);
+
 // How many rows a link has to see: one over table 2's limit is refused, whatever follows.
-pub fn rows_needed(count: usize) -> usize
-    ensures { λ r. ⌜ (r ≡ rowsNeeded count) × (r ≤ suc (mostRows Symbols)) ⌝ }
+fn rows_needed(count: usize) -> usize
+    ensures { λ r. ⌜ r ≡ rowsNeeded count ⌝ }
 {
     if MOST_SYMBOLS < count {
         return MOST_SYMBOLS + 1;
     }
     count
-}
-
-// How many of them are laid into a room of that many bytes: all, or none.
-fn rows_to_lay(count: usize, room: usize) -> usize
-    ensures { λ r. ⌜ r ≡ rowsLaid count room ⌝ }
-{
-    let needed = rows_needed(count);
-    if room < SYMBOL_SIZE * needed {
-        return 0;
-    }
-    needed
 }
 
 // The first row with the index: what the byte table of the same rows answers.
@@ -83,14 +75,16 @@ pub fn find_rows(rows: &[Symbol], index: u32) -> Found
     Found::Nothing
 }
 
-// The rows as the byte table, from the start of `out` on; nothing is written where they do not fit.
-pub fn lay_rows(rows: &[Symbol], out: &mut [u8])
-    ensures { λ _. ⌜ now (out .exit) ≡ laidIn (was rows) (was out) ⌝ }
+// The rows that a link has to see as the byte table, from the start of `out` on, and how many they are.
+pub fn lay_rows(rows: &[Symbol], out: &mut [u8]) -> usize
+    requires { ⌜ rowsRoom ≤ length (now out) ⌝ }
+    ensures { λ r. ⌜ (r ≡ rowsNeeded (length (was rows))) × (now (out .exit) ≡ laidIn (was rows) (was out)) ⌝ }
 {
-    let n = rows_to_lay(rows.len(), out.len());
+    let n = rows_needed(rows.len());
     let mut i = 0;
     while i < n {
         put_row(out, i, rows[i]);
         i += 1;
     }
+    n
 }

@@ -3,7 +3,8 @@ ghost use mathlib.Core.Path.{_≡_};
 ghost use mathlib.Core.List.{[], _∷_};
 ghost use Prim.Native.Nat.{_*_, _^_, _≤_, _<_};
 ghost use lib.ListN.{length, getD, drop};
-ghost use Rattle.tell.specs.Lines.{Fits, Adds, Says, hexOf, placeOf, decimal, byteWords, bytesWords, pieceOf, takesOf, endsOf, lineFrom, wordsIn, spoken};
+ghost use Rattle.tell.specs.Lines.{Fits, Adds, Says, hexOf, placeOf, decimal, byteWords, bytesWords};
+ghost use Rattle.tell.specs.Lines.{pieceOf, takesOf, endsOf, lineFrom, wordsIn, spoken};
 use crate::room::LINE;
 
 // The marks for the next number: in decimal, in decimal as a column of four, its four bytes in hexadecimal, the same with a space

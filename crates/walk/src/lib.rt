@@ -52,10 +52,10 @@ pub enum ImageRun {
 }
 
 // Exact at 64 bits for every slot and immediate.
-pub fn ahead(slot: u32, by: u32, d: i32) -> i64
-    ensures { λ r. ⌜ r ≡ pos slot +ℤ (pos by +ℤ d) ⌝ }
+pub fn ahead(slot: Slot, by: u32, d: i32) -> i64
+    ensures { λ r. ⌜ r ≡ pos (slot .0) +ℤ (pos by +ℤ d) ⌝ }
 {
-    (slot as u64 + by as u64) as i64 + d as i64
+    (slot.0 as u64 + by as u64) as i64 + d as i64
 }
 
 // The offset, widened to an immediate's size.
@@ -80,9 +80,9 @@ pub fn slot_in(at: i64, slots: u32) -> Found
 }
 
 // The slot that lies at `here` of some code, as slot `slot` of its function or image; a call as an image has it.
-pub fn leads_at(kinds: &[u8; 256], code: &[u8], here: Slot, slot: u32) -> Move
+pub fn leads_at(kinds: &[u8; 256], code: &[u8], here: Slot, slot: Slot) -> Move
     requires { ⌜ (now kinds ≡ codes) × (slotSize * here .0 + slotSize ≤ length (now code)) ⌝ }
-    ensures { λ r. ⌜ moveOf r ≡ leadsIn (slotIn little (was code) (here .0)) slot ⌝ }
+    ensures { λ r. ⌜ moveOf r ≡ leadsIn (slotIn little (was code) (here .0)) (slot .0) ⌝ }
 {
     let kind = kind_of(kinds, opcode(code, here));
     match kind {
@@ -129,8 +129,8 @@ pub fn image_move(kinds: &[u8; 256], image: &[u8], slots: u32, at: i64) -> Move
             return Move::Outside;
         }
         Found::At(slot) => {
-            let n = slot as u32;
-            return leads_at(kinds, image, slot_at(n), n);
+            let here = slot_at(slot as u32);
+            return leads_at(kinds, image, here, here);
         }
     }
 }

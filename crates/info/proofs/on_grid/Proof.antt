@@ -1,9 +1,12 @@
 -- The invariant: the place is k records on, and the grid is what is left of it from record k.
 -- Assumes nothing.
 use mathlib.Core.Path.{_≡_, sym, ap, _∙_}
+use mathlib.Core.List.{List}
 use Prim.Native.Nat.{ℕ, _+_, _-_, _*_, _%_, _≤_}
 use native.Mathlib.Omega.{arith}
 use native.Mathlib.Nat.{mul-zero}
+use borrow.Author.Tests.{not-true, not-false}
+use lib.Dec.{eqb}
 use Rattle.rules.specs.Bytes.{little, u32At}
 use Rattle.rules.specs.Readers.{onGrid}
 use Rattle.info.specs.Promises.{given}
@@ -18,14 +21,18 @@ Inv-loop size count bytes at₀ k₀ at k =
 abbrev μ-loop : tie.MeasureT-loop
 μ-loop size count bytes at₀ k₀ at k = count - k
 
+-- the offset tested is that of record k
+at-record : (bytes : List ℕ) {at place : ℕ} → at ≡ place → eqb (u32At little bytes at % 8) 0 ≡ eqb (u32At little bytes place % 8) 0
+at-record bytes e = ap (λ (n : ℕ). eqb (u32At little bytes n % 8) 0) e
+
 loop-holds : tie.Need-loop-holds Inv-loop μ-loop
 loop-holds c =
     let a = c .before .args in
     let e : a .count ≡ a .count - 0 = omega arith in
     (omega arith, (sym (mul-zero (a .size)), ap (onGrid little (given (a .size) (a .count) (a .bytes .now)) 0) e))
 
-u32-at-requires : tie.Need-u32-at-requires Inv-loop μ-loop
-u32-at-requires c κs =
+is-slot-at-requires : tie.Need-is-slot-at-requires Inv-loop μ-loop
+is-slot-at-requires c κs =
     let a = c .before .before .before .args in
     let l = c .before .loop in
     omega (arith, one-more-fits (a .size) (l .k) (a .count) (c .loop-test .taken), l .inv .1 .0)
@@ -36,7 +43,7 @@ returns c =
     let a = l .before .before .args in
     sym (l .loop .inv .1 .1
     ∙ grid-stop little (given (a .size) (a .count) (a .bytes .now)) (l .loop .k) (a .count) (omega arith)
-    (λ e. c .if1 .taken (ap (λ (v : ℕ). v % 8) (c .before .u32-at .ensures ∙ ap (u32At little (a .bytes .now)) (l .loop .inv .1 .0)) ∙ e)))
+    (sym (c .before .is-slot-at .ensures ∙ at-record (a .bytes .now) (l .loop .inv .1 .0)) ∙ not-true _ (c .if1 .taken)))
 
 add-at : tie.Need-add-at Inv-loop μ-loop
 add-at c =
@@ -59,7 +66,7 @@ loop-again c =
         ap (λ (v : ℕ). v + a .size) (l .loop .inv .1 .0) ∙ next (a .size) (l .loop .k),
         l .loop .inv .1 .1
             ∙ grid-step little (given (a .size) (a .count) (a .bytes .now)) (l .loop .k) (a .count) (omega arith)
-            (ap (λ (v : ℕ). v % 8) (sym (c .before .u32-at .ensures ∙ ap (u32At little (a .bytes .now)) (l .loop .inv .1 .0))) ∙ c .if1 .left),
+            (sym (c .before .is-slot-at .ensures ∙ at-record (a .bytes .now) (l .loop .inv .1 .0)) ∙ not-false _ (c .if1 .left)),
       ),
     )
 
@@ -77,7 +84,7 @@ on-grid-spec =
     Inv-loop
     μ-loop
     loop-holds
-    u32-at-requires
+    is-slot-at-requires
     returns
     add-at
     add-k

@@ -61,8 +61,8 @@ loop-holds c =
       rows = λ table e. c .before .before .pre .zero-before;
     }
 
-u32-at-requires : tie.Need-u32-at-requires Inv-loop μ-loop
-u32-at-requires c κs = omega (arith, reaches (c .before) .0, start (c .before) .pre .slot, start (c .before) .pre .record-holds)
+slot-in-requires : tie.Need-slot-in-requires Inv-loop μ-loop
+slot-in-requires c κs = omega (arith, reaches (c .before) .0, start (c .before) .pre .slot, start (c .before) .pre .record-holds)
 
 put-u32-requires : tie.Need-put-u32-requires Inv-loop μ-loop
 put-u32-requires c κs =
@@ -108,7 +108,7 @@ loop-again c =
       target = ap (λ (v : ℕ). v + a .row) (l .inv .target) ∙ next (a .row) (l .k);
       kept = c .before .before .copy .kept .0 ∙ g .before .before .before .put-u32 .kept .0 ∙ l .inv .kept;
       rows = λ table e. turned little table (given (a .size) (a .count) (a .bytes .now)) (within i table e) (length (a .out .now)) (a .row) (l .from) (l .to) (l .k) _ (l .out) _ _
-          e (l .inv .source) (l .inv .target) (g .before .before .before .before .u32-at .ensures) (l .inv .rows table e)
+          e (l .inv .source) (l .inv .target) (g .before .before .before .before .slot-in .ensures) (l .inv .rows table e)
           (g .before .before .before .put-u32 .ensures) (c .before .before .copy .ensures) (i .loop-test .taken) (omega (arith, reaches i .1, l .inv .target));
     }
 
@@ -130,7 +130,7 @@ put-rows-spec =
     Inv-loop
     μ-loop
     loop-holds
-    u32-at-requires
+    slot-in-requires
     put-u32-requires
     add-copy
     add-copy-2

@@ -1,23 +1,27 @@
 -- Past both tests record k ends within the data; before that the definition too has nothing.
 -- Assumes nothing.
-use mathlib.Core.Path.{_≡_, sym, ap, _∙_}
-use mathlib.Core.Bool.{true}
+use mathlib.Core.Path.{_≡_, refl, sym, ap, _∙_}
+use mathlib.Core.Bool.{Bool, true}
 use Prim.Native.Nat.{ℕ, _+_, _-_, _*_, _≤_}
 use native.Mathlib.Omega.{arith}
+use native.Mathlib.Nat.{add-comm}
 use borrow.Author.Needs.{needs}
 use borrow.Author.Tests.{lt-ltb, le-ltb, not-true, not-false}
 use lib.ListN.{length, take, drop}
 use Rattle.rules.specs.Bytes.{little}
 use Rattle.rules.specs.Readers.{isWhole, recordPart}
 use Rattle.info.specs.Promises.{given}
-use Rattle.info.proofs.Whole.{product, whole-within}
+use Rattle.info.proofs.Whole.{product, whole-within, first-refuses, second-refuses}
 use Rattle.info.proofs.record.Statement.{statement}
 use Rattle.info.proofs.record.Tie as tie
 
 abbrev start : tie.Else2 → tie.Start
 start c = c .before .before .before .before
 
-whole : (c : tie.Else2) → isWhole little (start c .args .table) (given (start c .args .size) (start c .args .count) (start c .args .bytes .now)) ≡ true
+abbrev whole-of : tie.Start → Bool
+whole-of s = isWhole little (s .args .table) (given (s .args .size) (s .args .count) (s .args .bytes .now))
+
+whole : (c : tie.Else2) → whole-of (start c) ≡ true
 whole c = sym (c .before .before .is-whole .ensures) ∙ not-false _ (c .before .if1 .left)
 
 ends : (c : tie.Else2) → start c .args .size * start c .args .k + start c .args .size ≤ length (start c .args .bytes .now)
@@ -39,7 +43,10 @@ part-result-end c = search needs
 
 returns : tie.Need-returns
 unfolding recordPart
-returns c = simp (sym (c .before .before .is-whole .ensures) ∙ not-true _ (c .before .if1 .taken))
+returns c = record {
+  bytes = simp (sym (c .before .before .is-whole .ensures) ∙ not-true _ (c .before .if1 .taken));
+  stands = λ h. absurd (first-refuses _ _ (sym (c .before .before .is-whole .ensures) ∙ not-true _ (c .before .if1 .taken)) h);
+}
 
 sub-result-2 : tie.Need-sub-result-2
 sub-result-2 c = search needs
@@ -52,7 +59,10 @@ part-result-end-2 c = search needs
 
 returns-2 : tie.Need-returns-2
 unfolding recordPart
-returns-2 c = simp (sym (c .before .before .before .is-whole .ensures) ∙ not-false _ (c .before .before .if1 .left), le-ltb _ _ (c .before .if2 .taken))
+returns-2 c = record {
+  bytes = simp (sym (c .before .before .before .is-whole .ensures) ∙ not-false _ (c .before .before .if1 .left), le-ltb _ _ (c .before .if2 .taken));
+  stands = λ h. absurd (second-refuses (whole-of (c .before .before .before .before .before)) _ (le-ltb _ _ (c .before .if2 .taken)) h);
+}
 
 mul-at : tie.Need-mul-at
 mul-at c = record { fits = product (start c .fits .size .fits) (start c .fits .k .fits) }
@@ -74,7 +84,10 @@ unfolding recordPart
 returns-3 c =
     let a = start (c .before) .args in
     let e : a .size * a .k + a .size - a .size * a .k ≡ a .size = omega arith in
-    simp (whole (c .before), lt-ltb _ _ (c .before .if2 .left)) (ap (λ (n : ℕ). take n (drop (a .size * a .k) (a .bytes .now))) e)
+    record {
+      bytes = simp (whole (c .before), lt-ltb _ _ (c .before .if2 .left)) (ap (λ (n : ℕ). take n (drop (a .size * a .k) (a .bytes .now))) e);
+      stands = λ h. ap (λ (n : ℕ). (a .bytes .ptr .0, n)) (add-comm (a .size * a .k) (a .bytes .ptr .1));
+    }
 
 pub record-spec : {M : Type 1} → statement M
 record-spec =

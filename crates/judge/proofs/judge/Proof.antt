@@ -1,9 +1,10 @@
 -- Before the function, past its end, off the grid; else the slot is read and its symbol judges.
 -- Assumes nothing.
-use mathlib.Core.Path.{_≡_, ap, _∙_}
+use mathlib.Core.Path.{_≡_, sym, ap, _∙_}
 use Prim.Native.Nat.{ℕ, _+_, _-_, _*_, _%_, _≤_, _<_}
 use native.Mathlib.Omega.{arith}
 use borrow.Author.Needs.{needs}
+use borrow.Author.Tests.{eqb-true, eqb-false, not-true, not-false}
 use Rattle.rules.specs.declared.Cause.the-variants.{InvalidRelocationOffset}
 use Rattle.rules.specs.Answers.{reply, numberOf}
 use Rattle.rules.specs.Rows.{Offered, functionSlots, functionOffset, relocationSymbol, relocationOffset}
@@ -97,6 +98,9 @@ cast-function : tie.Need-cast-function
 cast-function c =
     record { fits = omega (arith, row-low (start (read c) .pre)) }
 
+is-on-grid-requires : tie.Need-is-on-grid-requires
+is-on-grid-requires c κs = search needs
+
 refusal-requires : tie.Need-refusal-requires
 refusal-requires c κs = search needs
 
@@ -104,7 +108,7 @@ returns-3 : tie.Need-returns-3
 returns-3 c =
     let t = c .before .before .before in
     let a = start (read t) .args in
-    off-judges (start (read t) .pre) (starts (sized t)) (ends t) (λ e. c .before .if3 .taken (omega (arith, e, far (sized t)))) _
+    off-judges (start (read t) .pre) (starts (sized t)) (ends t) (λ e. eqb-false _ 0 (sym (c .before .before .is-on-grid .ensures) ∙ not-true _ (c .before .if3 .taken)) (ap (λ (n : ℕ). n % 8) (far (sized t)) ∙ e)) _
     (c .refusal .ensures ∙ ap (λ (n : ℕ). reply (numberOf InvalidRelocationOffset) (a .row) n 0) (slot-is t))
 
 read-site-requires : tie.Need-read-site-requires
@@ -135,7 +139,7 @@ returns-4 c =
     let says : Says (site .read-site .result)
     (symbolVerdict (s .args .code .now) (s .args .symbols .now) (s .args .maps .now) (relocationSymbol (s .args .relocations .now) (s .args .k)) (site .read-site .result)) (c .by-symbol .result) =
     rw (c .before .relocation-symbol .ensures) at (c .by-symbol .ensures) in
-    site-judges (s .pre) (starts (sized t)) (ends t) (omega (arith, on .if3 .left, far (sized t))) _ _ _ (slot-is t) (read t .function-slots .ensures) (site .read-site .ensures) _ says
+    site-judges (s .pre) (starts (sized t)) (ends t) (ap (λ (n : ℕ). n % 8) (sym (far (sized t))) ∙ eqb-true _ 0 (sym (on .before .is-on-grid .ensures) ∙ not-false _ (on .if3 .left))) _ _ _ (slot-is t) (read t .function-slots .ensures) (site .read-site .ensures) _ says
 
 pub judge-spec : {M : Type 1} → statement M
 judge-spec =
@@ -150,6 +154,7 @@ judge-spec =
     returns-2
     to-slot-requires
     cast-function
+    is-on-grid-requires
     refusal-requires
     returns-3
     read-site-requires

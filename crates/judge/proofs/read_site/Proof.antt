@@ -12,20 +12,14 @@ use Rattle.judge.proofs.read_site.Statement.{statement}
 use Rattle.judge.proofs.read_site.Tie as tie
 
 -- both places are known
-abbrev start : tie.After-slot-at2 → tie.Start
-start n = n .before .before .before .before .before
+abbrev start : tie.After-after2 → tie.Start
+start n = n .before .before .before
 
-add-slot-at : tie.Need-add-slot-at
-add-slot-at c = search needs
+after-requires : tie.Need-after-requires
+after-requires c κs = search needs
 
-slot-at-requires : tie.Need-slot-at-requires
-slot-at-requires c κs = search needs
-
-add-slot-at-2 : tie.Need-add-slot-at-2
-add-slot-at-2 c = search needs
-
-slot-at-requires-2 : tie.Need-slot-at-requires-2
-slot-at-requires-2 c κs = search needs
+after-requires-2 : tie.Need-after-requires-2
+after-requires-2 c κs = search needs
 
 immediate-requires : tie.Need-immediate-requires
 immediate-requires c κs = search needs
@@ -40,7 +34,7 @@ returns : tie.Need-returns
 returns c =
     let n = c .before .before .before in
     let a = start n .args in
-    let at = n .before .before .slot-at .ensures in
+    let at = n .before .after .ensures in
     record {
       row-is = refl;
       slot-is = refl;
@@ -48,18 +42,16 @@ returns c =
       imm-is = toZ-ofZ w32 _ (record { sfits = c .before .before .immediate .ok }) ∙ c .before .before .immediate .ensures
           ∙ ap (λ (m : ℕ). slotIn little (a .instructions .now) m .immediate) at;
       call-is = c .before .insn-is-call .ensures ∙ ap (λ (m : ℕ). isCall (slotIn little (a .instructions .now) m)) at;
-      wide-is = c .is-wide-load .ensures ∙ ap (λ (m : ℕ). wideLoadIn (a .instructions .now) m (n .slot-at2 .result .0)) at
-          ∙ ap (λ (m : ℕ). wideLoadIn (a .instructions .now) (a .first + a .slot .0) m) (n .slot-at2 .ensures);
+      wide-is = c .is-wide-load .ensures ∙ ap (λ (m : ℕ). wideLoadIn (a .instructions .now) m (n .after2 .result .0)) at
+          ∙ ap (λ (m : ℕ). wideLoadIn (a .instructions .now) (a .first .0 + a .slot .0) m) (n .after2 .ensures);
     }
 
 pub read-site-spec : {M : Type 1} → statement M
 read-site-spec =
     tie.close
     (tie.spec
-    add-slot-at
-    slot-at-requires
-    add-slot-at-2
-    slot-at-requires-2
+    after-requires
+    after-requires-2
     immediate-requires
     insn-is-call-requires
     is-wide-load-requires

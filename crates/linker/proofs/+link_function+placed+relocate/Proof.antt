@@ -12,9 +12,14 @@ use Rattle.rules.specs.declared.Judgement.{Judgement}
 use Rattle.rules.specs.declared.Judgement.the-variants.{Refused}
 use Rattle.rules.specs.declared.Refusal.{Refusal}
 use Rattle.rules.specs.Answers.{refusalIn}
-use Rattle.rules.specs.Lent.{buffers}
-use Rattle.rules.specs.Rows.{wholeRows, linkOffer, functionSlots, functionSection, functionOffset}
+use Rattle.rules.specs.Object.{meaning}
+use Rattle.rules.specs.Bytes.{little}
+use Rattle.rules.specs.Tables.{objectOf}
+use Rattle.rules.specs.Lent.{buffers, offeredCode}
+use Rattle.rules.specs.Rows.{wholeRows, linkOffer, tablesOf, functionSlots, functionSection, functionOffset}
 use Rattle.rules.specs.Lookups.{foundOf, relocationWith}
+use Rattle.resolve.specs.Means.{Means}
+use Rattle.resolve.specs.Resolves.{Resolves}
 use Rattle.rows.proofs.Laws.{found-some, found-none}
 use Rattle.linker.specs.Linker.{unplaced}
 use Rattle.linker.proofs.Cursor.{Behind}
@@ -34,6 +39,7 @@ use Rattle.linker.proofs.relocate.Reads as relocate
 use Rattle.linker.proofs.relocate.Kinds as relocate-kinds
 use Rattle.linker.proofs.+link_function+placed+relocate.Lts-relocate as relocate-lts
 use Rattle.answers.proofs.refusal.Reads as refusal-reads
+use Rattle.insn.proofs.after.Reads as after-reads
 use Rattle.insn.proofs.place.Reads as place-reads
 use Rattle.insn.proofs.slot_at.Reads as slot-at-reads
 use Rattle.linker.proofs.point.Reads as point-reads
@@ -102,6 +108,8 @@ link-function-claims t = (
   stray-line-reads.Learnt,
   extend-reads.Asked,
   extend-reads.Learnt,
+  slot-at-reads.Asked,
+  slot-at-reads.Learnt,
   relocate-below t,
   relocate.Post,
 )
@@ -128,6 +136,8 @@ relocate-claims t = (
   resolve-reads.Learnt,
   placed-below t,
   placed.Post,
+  after-reads.Asked,
+  after-reads.Learnt,
   point-reads.Asked,
   point-reads.Learnt,
 )
@@ -237,22 +247,22 @@ abbrev link-function-part-of-from-extend : {t : ℕ} → link-function·extend t
 link-function-part-of-from-extend c = link-function-part-of-from-enum-told (c .before .before .before .before)
 
 abbrev link-function-start-from-relocate : {t : ℕ} → link-function·relocate t → link-function·start t
-link-function-start-from-relocate c = link-function-start-from-extend (c .before .before .before .before .before .before .before .before .before .before .before)
+link-function-start-from-relocate c = link-function-start-from-extend (c .before .before .before .before .before .before .before .before .before .before .before .before .before)
 
 abbrev link-function-has-room-from-relocate : {t : ℕ} → link-function·relocate t → link-function·has-room t
-link-function-has-room-from-relocate c = link-function-has-room-from-extend (c .before .before .before .before .before .before .before .before .before .before .before)
+link-function-has-room-from-relocate c = link-function-has-room-from-extend (c .before .before .before .before .before .before .before .before .before .before .before .before .before)
 
 abbrev link-function-else1-from-relocate : {t : ℕ} → link-function·relocate t → link-function·else1 t
-link-function-else1-from-relocate c = link-function-else1-from-extend (c .before .before .before .before .before .before .before .before .before .before .before)
+link-function-else1-from-relocate c = link-function-else1-from-extend (c .before .before .before .before .before .before .before .before .before .before .before .before .before)
 
 abbrev link-function-stray-line-from-relocate : {t : ℕ} → link-function·relocate t → link-function·stray-line t
-link-function-stray-line-from-relocate c = link-function-stray-line-from-extend (c .before .before .before .before .before .before .before .before .before .before .before)
+link-function-stray-line-from-relocate c = link-function-stray-line-from-extend (c .before .before .before .before .before .before .before .before .before .before .before .before .before)
 
 abbrev link-function-enum-told-from-relocate : {t : ℕ} → link-function·relocate t → link-function·enum-told t
-link-function-enum-told-from-relocate c = link-function-enum-told-from-extend (c .before .before .before .before .before .before .before .before .before .before .before)
+link-function-enum-told-from-relocate c = link-function-enum-told-from-extend (c .before .before .before .before .before .before .before .before .before .before .before .before .before)
 
 abbrev link-function-extend-from-relocate : {t : ℕ} → link-function·relocate t → link-function·extend t
-link-function-extend-from-relocate c = c .before .before .before .before .before .before .before .before .before .before .before
+link-function-extend-from-relocate c = c .before .before .before .before .before .before .before .before .before .before .before .before .before
 
 link-function-has-room-requires : (t : ℕ) → link-function-lts.Need-has-room-requires (link-function-claims t) (link-function-at t) link-function.Post
 link-function-has-room-requires t c κs = c .before .before .before .before .before .before .before .before .before .before .before .pre .1 .asks .row-in
@@ -302,10 +312,16 @@ link-function-mul-next t c = omega (arith, ways.row-small ((link-function-start-
 link-function-element-write-next : (t : ℕ) → link-function-lts.Need-element-write-next (link-function-claims t) (link-function-at t) link-function.Post
 link-function-element-write-next t c = ways.row-small ((link-function-start-from-extend (c .before .before .before .before .before .before .before)) .pre .1 .asks .checked) ((link-function-start-from-extend (c .before .before .before .before .before .before .before)) .pre .1 .asks .row-in)
 
+link-function-slot-at-requires : (t : ℕ) → link-function-lts.Need-slot-at-requires (link-function-claims t) (link-function-at t) link-function.Post
+link-function-slot-at-requires t c κs = search needs
+
+link-function-slot-at-requires-2 : (t : ℕ) → link-function-lts.Need-slot-at-requires-2 (link-function-claims t) (link-function-at t) link-function.Post
+link-function-slot-at-requires-2 t c κs = search needs
+
 link-function-relocate-requires : (t : ℕ) → link-function-lts.Need-relocate-requires (link-function-claims t) (link-function-at t) link-function.Post
 link-function-relocate-requires t c κs = (
-  rw (← (link-function-start-from-extend (c .before .before .before .before .before .before .before .before .before .before)) .pre .0) (omega (arith, ways.next-falls ((link-function-start-from-extend (c .before .before .before .before .before .before .before .before .before .before)) .pre .1) (sym ((link-function-has-room-from-extend (c .before .before .before .before .before .before .before .before .before .before)) .has-room .ensures) ∙ not-false _ ((link-function-else1-from-extend (c .before .before .before .before .before .before .before .before .before .before)) .if1 .left)) (found-none _ (sym ((link-function-stray-line-from-extend (c .before .before .before .before .before .before .before .before .before .before)) .stray-line .ensures) ∙ (link-function-enum-told-from-extend (c .before .before .before .before .before .before .before .before .before .before)) .enum-told .given .1)) (c .before .before .before .before .before .before .before .before .before .before .extend .ensures))),
-  ways.next-visits ((link-function-start-from-extend (c .before .before .before .before .before .before .before .before .before .before)) .pre .1) (sym ((link-function-has-room-from-extend (c .before .before .before .before .before .before .before .before .before .before)) .has-room .ensures) ∙ not-false _ ((link-function-else1-from-extend (c .before .before .before .before .before .before .before .before .before .before)) .if1 .left)) (found-none _ (sym ((link-function-stray-line-from-extend (c .before .before .before .before .before .before .before .before .before .before)) .stray-line .ensures) ∙ (link-function-enum-told-from-extend (c .before .before .before .before .before .before .before .before .before .before)) .enum-told .given .1)) (c .before .before .before .before .before .before .before .before .before .before .extend .ensures) ((link-function-part-of-from-extend (c .before .before .before .before .before .before .before .before .before .before)) .part-of .ensures .slots-are),
+  rw (← (link-function-start-from-extend (c .before .before .before .before .before .before .before .before .before .before .before .before)) .pre .0) (omega (arith, ways.next-falls ((link-function-start-from-extend (c .before .before .before .before .before .before .before .before .before .before .before .before)) .pre .1) (sym ((link-function-has-room-from-extend (c .before .before .before .before .before .before .before .before .before .before .before .before)) .has-room .ensures) ∙ not-false _ ((link-function-else1-from-extend (c .before .before .before .before .before .before .before .before .before .before .before .before)) .if1 .left)) (found-none _ (sym ((link-function-stray-line-from-extend (c .before .before .before .before .before .before .before .before .before .before .before .before)) .stray-line .ensures) ∙ (link-function-enum-told-from-extend (c .before .before .before .before .before .before .before .before .before .before .before .before)) .enum-told .given .1)) (c .before .before .before .before .before .before .before .before .before .before .before .before .extend .ensures))),
+  ways.next-visits ((link-function-start-from-extend (c .before .before .before .before .before .before .before .before .before .before .before .before)) .pre .1) (sym ((link-function-has-room-from-extend (c .before .before .before .before .before .before .before .before .before .before .before .before)) .has-room .ensures) ∙ not-false _ ((link-function-else1-from-extend (c .before .before .before .before .before .before .before .before .before .before .before .before)) .if1 .left)) (found-none _ (sym ((link-function-stray-line-from-extend (c .before .before .before .before .before .before .before .before .before .before .before .before)) .stray-line .ensures) ∙ (link-function-enum-told-from-extend (c .before .before .before .before .before .before .before .before .before .before .before .before)) .enum-told .given .1)) (c .before .before .before .before .before .before .before .before .before .before .before .before .extend .ensures) (c .before .slot-at .ensures) (c .slot-at2 .ensures ∙ (link-function-part-of-from-extend (c .before .before .before .before .before .before .before .before .before .before .before .before)) .part-of .ensures .slots-are),
 )
 
 link-function-same-length : (t : ℕ) → link-function-lts.Need-same-length (link-function-claims t) (link-function-at t) link-function.Post
@@ -318,7 +334,7 @@ link-function-same-length-3 : (t : ℕ) → link-function-lts.Need-same-length-3
 link-function-same-length-3 t c = search needs
 
 link-function-returns-3 : (t : ℕ) → link-function-lts.Need-returns-3 (link-function-claims t) (link-function-at t) link-function.Post
-link-function-returns-3 t c = ways.next-done ((link-function-start-from-relocate (c .before .before .before .before .before .before)) .pre .1) (sym ((link-function-has-room-from-relocate (c .before .before .before .before .before .before)) .has-room .ensures) ∙ not-false _ ((link-function-else1-from-relocate (c .before .before .before .before .before .before)) .if1 .left)) (found-none _ (sym ((link-function-stray-line-from-relocate (c .before .before .before .before .before .before)) .stray-line .ensures) ∙ (link-function-enum-told-from-relocate (c .before .before .before .before .before .before)) .enum-told .given .1)) ((link-function-extend-from-relocate (c .before .before .before .before .before .before)) .extend .ensures) _ _ (c .before .before .before .before .before .before .relocate .ensures)
+link-function-returns-3 t c = ways.next-done ((link-function-start-from-relocate (c .before .before .before .before .before .before)) .pre .1) (sym ((link-function-has-room-from-relocate (c .before .before .before .before .before .before)) .has-room .ensures) ∙ not-false _ ((link-function-else1-from-relocate (c .before .before .before .before .before .before)) .if1 .left)) (found-none _ (sym ((link-function-stray-line-from-relocate (c .before .before .before .before .before .before)) .stray-line .ensures) ∙ (link-function-enum-told-from-relocate (c .before .before .before .before .before .before)) .enum-told .given .1)) ((link-function-extend-from-relocate (c .before .before .before .before .before .before)) .extend .ensures) _ _ (c .before .before .before .before .before .before .before .before .slot-at .ensures) (c .before .before .before .before .before .before .relocate .ensures)
 
 -- ---- placed
 -- the stations that the needs go back to
@@ -363,16 +379,16 @@ placed-returns-2 t c = steps.place-there (c .before .before .before .before .bef
 
 -- ---- relocate
 abbrev relocate-Inv-loop2 : relocate-lts.InvT-loop2
-relocate-Inv-loop2 code symbols functions relocations instructions func-info line-info image image-func-info image-line-info row start first slots home offset n cur₀ now slot at cur =
+relocate-Inv-loop2 code symbols functions relocations instructions func-info line-info image image-func-info image-line-info row start first slots home offset n cur₀ now slot here at cur =
     (cur ≤ wholeRows Relocations relocations) × Behind relocations (functionSection functions row) (functionOffset functions row + 8 * slot) cur
 
 abbrev relocate-μ-loop2 : relocate-lts.MeasureT-loop2
-relocate-μ-loop2 code symbols functions relocations instructions func-info line-info image image-func-info image-line-info row start first slots home offset n cur₀ now slot at cur =
+relocate-μ-loop2 code symbols functions relocations instructions func-info line-info image image-func-info image-line-info row start first slots home offset n cur₀ now slot here at cur =
     wholeRows Relocations relocations - cur
 
 abbrev relocate-Inv-loop : relocate-lts.InvT-loop
 relocate-Inv-loop code symbols functions relocations instructions func-info line-info image₀ image-func-info₀ image-line-info₀ row start first slots home offset n cur₀ now₀ slot₀ image image-func-info image-line-info cur now slot =
-    Inv (linkOffer code symbols functions relocations instructions func-info line-info) now₀ (buffers image₀ image-func-info₀ image-line-info₀) row start (functionSlots functions row) now (buffers image image-func-info image-line-info) slot
+    Inv (linkOffer code symbols functions relocations instructions func-info line-info) now₀ (buffers image₀ image-func-info₀ image-line-info₀) row (start .0) (functionSlots functions row) now (buffers image image-func-info image-line-info) slot
     × ((cur ≤ wholeRows Relocations relocations) × Behind relocations (functionSection functions row) (functionOffset functions row + 8 * slot) cur)
 
 abbrev relocate-μ-loop : relocate-lts.MeasureT-loop
@@ -446,11 +462,11 @@ relocate·meaning2 t = relocate-lts.After-meaning2 (relocate-claims t) (relocate
 abbrev relocate·enum-told2 : ℕ → Type 0
 relocate·enum-told2 t = relocate-lts.After-enum-told2 (relocate-claims t) (relocate-at t) relocate.Post relocate-Inv-loop2 relocate-μ-loop2 relocate-Inv-loop relocate-μ-loop
 
+abbrev relocate·after : ℕ → Type 0
+relocate·after t = relocate-lts.After-after (relocate-claims t) (relocate-at t) relocate.Post relocate-Inv-loop2 relocate-μ-loop2 relocate-Inv-loop relocate-μ-loop
+
 abbrev relocate·slot-at2 : ℕ → Type 0
 relocate·slot-at2 t = relocate-lts.After-slot-at2 (relocate-claims t) (relocate-at t) relocate.Post relocate-Inv-loop2 relocate-μ-loop2 relocate-Inv-loop relocate-μ-loop
-
-abbrev relocate·slot-at3 : ℕ → Type 0
-relocate·slot-at3 t = relocate-lts.After-slot-at3 (relocate-claims t) (relocate-at t) relocate.Post relocate-Inv-loop2 relocate-μ-loop2 relocate-Inv-loop relocate-μ-loop
 
 abbrev relocate·point : ℕ → Type 0
 relocate·point t = relocate-lts.After-point (relocate-claims t) (relocate-at t) relocate.Post relocate-Inv-loop2 relocate-μ-loop2 relocate-Inv-loop relocate-μ-loop
@@ -599,6 +615,9 @@ relocate-turn-from-found c = relocate-turn-from-loop2 (c .before)
 abbrev relocate-start-from-resolve : {t : ℕ} → relocate·resolve t → relocate·start t
 relocate-start-from-resolve c = relocate-start-from-found (c .before)
 
+abbrev relocate-slot-at-from-resolve : {t : ℕ} → relocate·resolve t → relocate·slot-at t
+relocate-slot-at-from-resolve c = relocate-slot-at-from-found (c .before)
+
 abbrev relocate-start-from-enum-told : {t : ℕ} → relocate·enum-told t → relocate·start t
 relocate-start-from-enum-told c = relocate-start-from-resolve (c .before .before)
 
@@ -713,80 +732,80 @@ relocate-resolve-from-enum-told2 c = relocate-resolve-from-placed (c .before .be
 abbrev relocate-placed-from-enum-told2 : {t : ℕ} → relocate·enum-told2 t → relocate·placed t
 relocate-placed-from-enum-told2 c = c .before .before .before .before .before .before .before .before
 
+abbrev relocate-start-from-after : {t : ℕ} → relocate·after t → relocate·start t
+relocate-start-from-after c = relocate-start-from-enum-told2 (c .before .before .before)
+
+abbrev relocate-loop-from-after : {t : ℕ} → relocate·after t → relocate·loop t
+relocate-loop-from-after c = relocate-loop-from-enum-told2 (c .before .before .before)
+
+abbrev relocate-function-slots-from-after : {t : ℕ} → relocate·after t → relocate·function-slots t
+relocate-function-slots-from-after c = relocate-function-slots-from-enum-told2 (c .before .before .before)
+
+abbrev relocate-turn-from-after : {t : ℕ} → relocate·after t → relocate·turn t
+relocate-turn-from-after c = relocate-turn-from-enum-told2 (c .before .before .before)
+
+abbrev relocate-meaning2-from-after : {t : ℕ} → relocate·after t → relocate·meaning2 t
+relocate-meaning2-from-after c = relocate-meaning2-from-enum-told2 (c .before .before .before)
+
+abbrev relocate-resolve-from-after : {t : ℕ} → relocate·after t → relocate·resolve t
+relocate-resolve-from-after c = relocate-resolve-from-enum-told2 (c .before .before .before)
+
+abbrev relocate-placed-from-after : {t : ℕ} → relocate·after t → relocate·placed t
+relocate-placed-from-after c = relocate-placed-from-enum-told2 (c .before .before .before)
+
+abbrev relocate-enum-told2-from-after : {t : ℕ} → relocate·after t → relocate·enum-told2 t
+relocate-enum-told2-from-after c = c .before .before .before
+
 abbrev relocate-start-from-slot-at2 : {t : ℕ} → relocate·slot-at2 t → relocate·start t
-relocate-start-from-slot-at2 c = relocate-start-from-enum-told2 (c .before .before .before)
+relocate-start-from-slot-at2 c = relocate-start-from-after (c .before .before)
 
 abbrev relocate-loop-from-slot-at2 : {t : ℕ} → relocate·slot-at2 t → relocate·loop t
-relocate-loop-from-slot-at2 c = relocate-loop-from-enum-told2 (c .before .before .before)
+relocate-loop-from-slot-at2 c = relocate-loop-from-after (c .before .before)
 
 abbrev relocate-function-slots-from-slot-at2 : {t : ℕ} → relocate·slot-at2 t → relocate·function-slots t
-relocate-function-slots-from-slot-at2 c = relocate-function-slots-from-enum-told2 (c .before .before .before)
+relocate-function-slots-from-slot-at2 c = relocate-function-slots-from-after (c .before .before)
 
 abbrev relocate-turn-from-slot-at2 : {t : ℕ} → relocate·slot-at2 t → relocate·turn t
-relocate-turn-from-slot-at2 c = relocate-turn-from-enum-told2 (c .before .before .before)
+relocate-turn-from-slot-at2 c = relocate-turn-from-after (c .before .before)
 
 abbrev relocate-meaning2-from-slot-at2 : {t : ℕ} → relocate·slot-at2 t → relocate·meaning2 t
-relocate-meaning2-from-slot-at2 c = relocate-meaning2-from-enum-told2 (c .before .before .before)
+relocate-meaning2-from-slot-at2 c = relocate-meaning2-from-after (c .before .before)
 
 abbrev relocate-resolve-from-slot-at2 : {t : ℕ} → relocate·slot-at2 t → relocate·resolve t
-relocate-resolve-from-slot-at2 c = relocate-resolve-from-enum-told2 (c .before .before .before)
+relocate-resolve-from-slot-at2 c = relocate-resolve-from-after (c .before .before)
 
 abbrev relocate-placed-from-slot-at2 : {t : ℕ} → relocate·slot-at2 t → relocate·placed t
-relocate-placed-from-slot-at2 c = relocate-placed-from-enum-told2 (c .before .before .before)
+relocate-placed-from-slot-at2 c = relocate-placed-from-after (c .before .before)
 
 abbrev relocate-enum-told2-from-slot-at2 : {t : ℕ} → relocate·slot-at2 t → relocate·enum-told2 t
-relocate-enum-told2-from-slot-at2 c = c .before .before .before
-
-abbrev relocate-start-from-slot-at3 : {t : ℕ} → relocate·slot-at3 t → relocate·start t
-relocate-start-from-slot-at3 c = relocate-start-from-slot-at2 (c .before .before)
-
-abbrev relocate-loop-from-slot-at3 : {t : ℕ} → relocate·slot-at3 t → relocate·loop t
-relocate-loop-from-slot-at3 c = relocate-loop-from-slot-at2 (c .before .before)
-
-abbrev relocate-function-slots-from-slot-at3 : {t : ℕ} → relocate·slot-at3 t → relocate·function-slots t
-relocate-function-slots-from-slot-at3 c = relocate-function-slots-from-slot-at2 (c .before .before)
-
-abbrev relocate-turn-from-slot-at3 : {t : ℕ} → relocate·slot-at3 t → relocate·turn t
-relocate-turn-from-slot-at3 c = relocate-turn-from-slot-at2 (c .before .before)
-
-abbrev relocate-meaning2-from-slot-at3 : {t : ℕ} → relocate·slot-at3 t → relocate·meaning2 t
-relocate-meaning2-from-slot-at3 c = relocate-meaning2-from-slot-at2 (c .before .before)
-
-abbrev relocate-resolve-from-slot-at3 : {t : ℕ} → relocate·slot-at3 t → relocate·resolve t
-relocate-resolve-from-slot-at3 c = relocate-resolve-from-slot-at2 (c .before .before)
-
-abbrev relocate-placed-from-slot-at3 : {t : ℕ} → relocate·slot-at3 t → relocate·placed t
-relocate-placed-from-slot-at3 c = relocate-placed-from-slot-at2 (c .before .before)
-
-abbrev relocate-enum-told2-from-slot-at3 : {t : ℕ} → relocate·slot-at3 t → relocate·enum-told2 t
-relocate-enum-told2-from-slot-at3 c = relocate-enum-told2-from-slot-at2 (c .before .before)
+relocate-enum-told2-from-slot-at2 c = relocate-enum-told2-from-after (c .before .before)
 
 abbrev relocate-start-from-point : {t : ℕ} → relocate·point t → relocate·start t
-relocate-start-from-point c = relocate-start-from-slot-at3 (c .before)
+relocate-start-from-point c = relocate-start-from-slot-at2 (c .before)
 
 abbrev relocate-function-slots-from-point : {t : ℕ} → relocate·point t → relocate·function-slots t
-relocate-function-slots-from-point c = relocate-function-slots-from-slot-at3 (c .before)
+relocate-function-slots-from-point c = relocate-function-slots-from-slot-at2 (c .before)
 
 abbrev relocate-turn-from-point : {t : ℕ} → relocate·point t → relocate·turn t
-relocate-turn-from-point c = relocate-turn-from-slot-at3 (c .before)
+relocate-turn-from-point c = relocate-turn-from-slot-at2 (c .before)
 
 abbrev relocate-loop-from-point : {t : ℕ} → relocate·point t → relocate·loop t
-relocate-loop-from-point c = relocate-loop-from-slot-at3 (c .before)
+relocate-loop-from-point c = relocate-loop-from-slot-at2 (c .before)
 
 abbrev relocate-meaning2-from-point : {t : ℕ} → relocate·point t → relocate·meaning2 t
-relocate-meaning2-from-point c = relocate-meaning2-from-slot-at3 (c .before)
+relocate-meaning2-from-point c = relocate-meaning2-from-slot-at2 (c .before)
 
 abbrev relocate-resolve-from-point : {t : ℕ} → relocate·point t → relocate·resolve t
-relocate-resolve-from-point c = relocate-resolve-from-slot-at3 (c .before)
+relocate-resolve-from-point c = relocate-resolve-from-slot-at2 (c .before)
 
 abbrev relocate-placed-from-point : {t : ℕ} → relocate·point t → relocate·placed t
-relocate-placed-from-point c = relocate-placed-from-slot-at3 (c .before)
+relocate-placed-from-point c = relocate-placed-from-slot-at2 (c .before)
 
 abbrev relocate-enum-told2-from-point : {t : ℕ} → relocate·point t → relocate·enum-told2 t
-relocate-enum-told2-from-point c = relocate-enum-told2-from-slot-at3 (c .before)
+relocate-enum-told2-from-point c = relocate-enum-told2-from-slot-at2 (c .before)
 
-abbrev relocate-slot-at2-from-point : {t : ℕ} → relocate·point t → relocate·slot-at2 t
-relocate-slot-at2-from-point c = c .before .before .before
+abbrev relocate-after-from-point : {t : ℕ} → relocate·point t → relocate·after t
+relocate-after-from-point c = c .before .before .before
 
 abbrev relocate-loop2-from-known-told2 : {t : ℕ} → relocate·known-told2 t → relocate·loop2 t
 relocate-loop2-from-known-told2 c = c .before .before .before .before .before
@@ -797,14 +816,14 @@ relocate-loop2-from-placed c = relocate-loop2-from-known-told2 (c .before .befor
 abbrev relocate-loop2-from-enum-told2 : {t : ℕ} → relocate·enum-told2 t → relocate·loop2 t
 relocate-loop2-from-enum-told2 c = relocate-loop2-from-placed (c .before .before .before .before .before .before .before .before)
 
-abbrev relocate-loop2-from-slot-at2 : {t : ℕ} → relocate·slot-at2 t → relocate·loop2 t
-relocate-loop2-from-slot-at2 c = relocate-loop2-from-enum-told2 (c .before .before .before)
+abbrev relocate-loop2-from-after : {t : ℕ} → relocate·after t → relocate·loop2 t
+relocate-loop2-from-after c = relocate-loop2-from-enum-told2 (c .before .before .before)
 
-abbrev relocate-loop2-from-slot-at3 : {t : ℕ} → relocate·slot-at3 t → relocate·loop2 t
-relocate-loop2-from-slot-at3 c = relocate-loop2-from-slot-at2 (c .before .before)
+abbrev relocate-loop2-from-slot-at2 : {t : ℕ} → relocate·slot-at2 t → relocate·loop2 t
+relocate-loop2-from-slot-at2 c = relocate-loop2-from-after (c .before .before)
 
 abbrev relocate-loop2-from-point : {t : ℕ} → relocate·point t → relocate·loop2 t
-relocate-loop2-from-point c = relocate-loop2-from-slot-at3 (c .before)
+relocate-loop2-from-point c = relocate-loop2-from-slot-at2 (c .before)
 
 abbrev relocate-start-from-end-of-loop : {t : ℕ} → relocate·end-of-loop t → relocate·start t
 relocate-start-from-end-of-loop c = relocate-start-from-loop (c .before)
@@ -864,8 +883,23 @@ found-is t c =
     (λ w. w .5 ∙ ways.found-later′ ((relocate-start-from-found c) .pre .1) (l .cur) ((relocate-function-section-from-found c) .function-section .ensures) (ways.at-is ((relocate-function-offset-from-found c) .function-offset .ensures) ((relocate-slot-at-from-found c) .slot-at .ensures) (c .before .before .place .ensures .0)) (l .inv .1) (ways.lt-of (l .inv .0) (w .0 .left)) (w .1 .ensures) (w .2 .left) (w .3 .ensures) (not-true _ (w .4 .taken))))
     (c .if1 .came)
 
+-- the slot that was resolved is the one that the loop stands at
+relocate-means : {t : ℕ} (c : relocate·resolve t) →
+    let a = (relocate-start-from-resolve c) .args in
+    let slot = (relocate-loop-from-resolve c) .loop .slot in
+    Means (a .row) slot (c .resolve .result)
+    (meaning (objectOf (tablesOf little (offeredCode (a .code) (a .symbols) (a .functions) (a .relocations) (a .instructions)))) (a .row) slot)
+relocate-means c =
+    let a = (relocate-start-from-resolve c) .args in
+    subst (λ (n : ℕ). Means (a .row) n (c .resolve .result)
+    (meaning (objectOf (tablesOf little (offeredCode (a .code) (a .symbols) (a .functions) (a .relocations) (a .instructions)))) (a .row) n))
+    ((relocate-slot-at-from-found (c .before)) .slot-at .ensures) (c .resolve .ensures)
+
 relocate-resolve-requires : (t : ℕ) → relocate-lts.Need-resolve-requires (relocate-claims t) (relocate-at t) relocate.Post relocate-Inv-loop2 relocate-μ-loop2 relocate-Inv-loop relocate-μ-loop
-relocate-resolve-requires t c κs = ways.resolves ((relocate-start-from-found c) .pre .1) ((relocate-loop-from-found c) .loop .inv .0) (ways.turn-of ((relocate-function-slots-from-found c) .function-slots .ensures) ((relocate-turn-from-found c) .loop-test .taken)) _ (found-is t c)
+relocate-resolve-requires t c κs =
+    let a = (relocate-start-from-found c) .args in
+    subst (λ (n : ℕ). Resolves (offeredCode (a .code) (a .symbols) (a .functions) (a .relocations) (a .instructions)) (a .row) (a .first .0) n (c .if1 .rel))
+    (sym ((relocate-slot-at-from-found c) .slot-at .ensures)) (ways.resolves ((relocate-start-from-found c) .pre .1) ((relocate-loop-from-found c) .loop .inv .0) (ways.turn-of ((relocate-function-slots-from-found c) .function-slots .ensures) ((relocate-turn-from-found c) .loop-test .taken)) _ (found-is t c))
 
 relocate-enum-told : (t : ℕ) → relocate-lts.Need-enum-told (relocate-claims t) (relocate-at t) relocate.Post relocate-Inv-loop2 relocate-μ-loop2 relocate-Inv-loop relocate-μ-loop
 relocate-enum-told t c = search needs
@@ -877,7 +911,7 @@ relocate-loop-less : (t : ℕ) → relocate-lts.Need-loop-less (relocate-claims 
 relocate-loop-less t c = omega (arith, (ways.turn-of ((relocate-function-slots-from-enum-told c) .function-slots .ensures) ((relocate-turn-from-enum-told c) .loop-test .taken)), (relocate-turn-from-enum-told c) .loop-test .taken)
 
 relocate-loop-again : (t : ℕ) → relocate-lts.Need-loop-again (relocate-claims t) (relocate-at t) relocate.Post relocate-Inv-loop2 relocate-μ-loop2 relocate-Inv-loop relocate-μ-loop
-relocate-loop-again t c = (ways.on-copied ((relocate-start-from-enum-told c) .pre .1) ((relocate-loop-from-enum-told c) .loop .inv .0) (ways.turn-of ((relocate-function-slots-from-enum-told c) .function-slots .ensures) ((relocate-turn-from-enum-told c) .loop-test .taken)) (c .enum-told .given .1) (c .before .before .resolve .ensures), ((relocate-loop2-from-enum-told c) .loop2 .inv .0, ways.behind-next ((relocate-start-from-enum-told c) .pre .1) ((relocate-loop-from-enum-told c) .loop .slot) ((relocate-loop2-from-enum-told c) .loop2 .cur) ((relocate-loop2-from-enum-told c) .loop2 .inv .1)))
+relocate-loop-again t c = (ways.on-copied ((relocate-start-from-enum-told c) .pre .1) ((relocate-loop-from-enum-told c) .loop .inv .0) (ways.turn-of ((relocate-function-slots-from-enum-told c) .function-slots .ensures) ((relocate-turn-from-enum-told c) .loop-test .taken)) (c .enum-told .given .1) (relocate-means (c .before .before)), ((relocate-loop2-from-enum-told c) .loop2 .inv .0, ways.behind-next ((relocate-start-from-enum-told c) .pre .1) ((relocate-loop-from-enum-told c) .loop .slot) ((relocate-loop2-from-enum-told c) .loop2 .cur) ((relocate-loop2-from-enum-told c) .loop2 .inv .1)))
 
 relocate-enum-known-meaning : (t : ℕ) → relocate-lts.Need-enum-known-meaning (relocate-claims t) (relocate-at t) relocate.Post relocate-Inv-loop2 relocate-μ-loop2 relocate-Inv-loop relocate-μ-loop
 relocate-enum-known-meaning t c = search needs
@@ -892,13 +926,13 @@ relocate-same-length-3 : (t : ℕ) → relocate-lts.Need-same-length-3 (relocate
 relocate-same-length-3 t c = ap (λ x. x .lineInfo) ((relocate-loop-from-known-told c) .loop .inv .0 .lengths)
 
 relocate-returns : (t : ℕ) → relocate-lts.Need-returns (relocate-claims t) (relocate-at t) relocate.Post relocate-Inv-loop2 relocate-μ-loop2 relocate-Inv-loop relocate-μ-loop
-relocate-returns t c = ways.on-refused ((relocate-start-from-known-told c) .pre .1) ((relocate-loop-from-known-told c) .loop .inv .0) (ways.turn-of ((relocate-function-slots-from-known-told c) .function-slots .ensures) ((relocate-turn-from-known-told c) .loop-test .taken)) _ (c .before .meaning .given .1) ((relocate-resolve-from-known-told c) .resolve .ensures)
+relocate-returns t c = ways.on-refused ((relocate-start-from-known-told c) .pre .1) ((relocate-loop-from-known-told c) .loop .inv .0) (ways.turn-of ((relocate-function-slots-from-known-told c) .function-slots .ensures) ((relocate-turn-from-known-told c) .loop-test .taken)) _ (c .before .meaning .given .1) (relocate-means (relocate-resolve-from-known-told c))
 
 relocate-enum-known-meaning-2 : (t : ℕ) → relocate-lts.Need-enum-known-meaning-2 (relocate-claims t) (relocate-at t) relocate.Post relocate-Inv-loop2 relocate-μ-loop2 relocate-Inv-loop relocate-μ-loop
 relocate-enum-known-meaning-2 t c = search needs
 
 relocate-placed-requires : (t : ℕ) → relocate-lts.Need-placed-requires (relocate-claims t) (relocate-at t) relocate.Post relocate-Inv-loop2 relocate-μ-loop2 relocate-Inv-loop relocate-μ-loop
-relocate-placed-requires t c κs = (rw (← (relocate-start-from-known-told2 (c .before .before .before)) .pre .0) (omega (arith, steps.visit-falls ((relocate-start-from-known-told2 (c .before .before .before)) .pre .1) ((relocate-loop-from-known-told2 (c .before .before .before)) .loop .inv .0))), ways.asks-placed ((relocate-start-from-known-told2 (c .before .before .before)) .pre .1) ((relocate-loop-from-known-told2 (c .before .before .before)) .loop .inv .0) (ways.turn-of ((relocate-function-slots-from-known-told2 (c .before .before .before)) .function-slots .ensures) ((relocate-turn-from-known-told2 (c .before .before .before)) .loop-test .taken)) (c .before .before .before .before .meaning2 .given .0 .0) (c .before .before .before .before .meaning2 .given .0 .1 .0) (c .before .before .before .before .meaning2 .given .1) ((relocate-resolve-from-known-told2 (c .before .before .before)) .resolve .ensures))
+relocate-placed-requires t c κs = (rw (← (relocate-start-from-known-told2 (c .before .before .before)) .pre .0) (omega (arith, steps.visit-falls ((relocate-start-from-known-told2 (c .before .before .before)) .pre .1) ((relocate-loop-from-known-told2 (c .before .before .before)) .loop .inv .0))), ways.asks-placed ((relocate-start-from-known-told2 (c .before .before .before)) .pre .1) ((relocate-loop-from-known-told2 (c .before .before .before)) .loop .inv .0) (ways.turn-of ((relocate-function-slots-from-known-told2 (c .before .before .before)) .function-slots .ensures) ((relocate-turn-from-known-told2 (c .before .before .before)) .loop-test .taken)) (c .before .before .before .before .meaning2 .given .0 .0) (c .before .before .before .before .meaning2 .given .0 .1 .0) (c .before .before .before .before .meaning2 .given .1) (relocate-means (relocate-resolve-from-known-told2 (c .before .before .before))))
 
 relocate-enum-told-2 : (t : ℕ) → relocate-lts.Need-enum-told-2 (relocate-claims t) (relocate-at t) relocate.Post relocate-Inv-loop2 relocate-μ-loop2 relocate-Inv-loop relocate-μ-loop
 relocate-enum-told-2 t c = search needs
@@ -916,28 +950,29 @@ relocate-same-length-6 : (t : ℕ) → relocate-lts.Need-same-length-6 (relocate
 relocate-same-length-6 t c = ap (λ x. x .lineInfo) (((relocate-placed-from-enum-told3 c) .placed .ensures) .gives .lengths ∙ (relocate-loop-from-enum-told3 c) .loop .inv .0 .lengths)
 
 relocate-returns-2 : (t : ℕ) → relocate-lts.Need-returns-2 (relocate-claims t) (relocate-at t) relocate.Post relocate-Inv-loop2 relocate-μ-loop2 relocate-Inv-loop relocate-μ-loop
-relocate-returns-2 t c = ways.out-refused ((relocate-start-from-enum-told3 c) .pre .1) ((relocate-loop-from-enum-told3 c) .loop .inv .0) (ways.turn-of ((relocate-function-slots-from-enum-told3 c) .function-slots .ensures) ((relocate-turn-from-enum-told3 c) .loop-test .taken)) ((relocate-meaning2-from-enum-told3 c) .meaning2 .given .0 .0) ((relocate-meaning2-from-enum-told3 c) .meaning2 .given .0 .1 .0) ((relocate-meaning2-from-enum-told3 c) .meaning2 .given .1) ((relocate-resolve-from-enum-told3 c) .resolve .ensures) ((relocate-placed-from-enum-told3 c) .placed .ensures) (told-refused (c .enum-told3 .given .1))
+relocate-returns-2 t c = ways.out-refused ((relocate-start-from-enum-told3 c) .pre .1) ((relocate-loop-from-enum-told3 c) .loop .inv .0) (ways.turn-of ((relocate-function-slots-from-enum-told3 c) .function-slots .ensures) ((relocate-turn-from-enum-told3 c) .loop-test .taken)) ((relocate-meaning2-from-enum-told3 c) .meaning2 .given .0 .0) ((relocate-meaning2-from-enum-told3 c) .meaning2 .given .0 .1 .0) ((relocate-meaning2-from-enum-told3 c) .meaning2 .given .1) (relocate-means (relocate-resolve-from-enum-told3 c)) ((relocate-placed-from-enum-told3 c) .placed .ensures) (told-refused (c .enum-told3 .given .1))
 
-relocate-add-slot-at : (t : ℕ) → relocate-lts.Need-add-slot-at (relocate-claims t) (relocate-at t) relocate.Post relocate-Inv-loop2 relocate-μ-loop2 relocate-Inv-loop relocate-μ-loop
-relocate-add-slot-at t c = omega (arith, ways.here-low ((relocate-start-from-enum-told2 (c .before .before)) .pre .1) ((relocate-loop-from-enum-told2 (c .before .before)) .loop .inv .0) (ways.turn-of ((relocate-function-slots-from-enum-told2 (c .before .before)) .function-slots .ensures) ((relocate-turn-from-enum-told2 (c .before .before)) .loop-test .taken)) ((relocate-meaning2-from-enum-told2 (c .before .before)) .meaning2 .given .0 .0) ((relocate-meaning2-from-enum-told2 (c .before .before)) .meaning2 .given .0 .1 .0) ((relocate-meaning2-from-enum-told2 (c .before .before)) .meaning2 .given .1) ((relocate-resolve-from-enum-told2 (c .before .before)) .resolve .ensures) ((relocate-placed-from-enum-told2 (c .before .before)) .placed .ensures) (ap refusalIn (c .before .before .enum-told2 .given .1)))
+-- and so is the slot of the image that is pointed
+here-is : {t : ℕ} (c : relocate·after t) → c .after .result .0 ≡ (relocate-start-from-after c) .args .start .0 + (relocate-loop-from-after c) .loop .slot
+here-is c = omega (arith, c .after .ensures, (relocate-slot-at-from-resolve (relocate-resolve-from-after c)) .slot-at .ensures)
+
+relocate-after-requires : (t : ℕ) → relocate-lts.Need-after-requires (relocate-claims t) (relocate-at t) relocate.Post relocate-Inv-loop2 relocate-μ-loop2 relocate-Inv-loop relocate-μ-loop
+relocate-after-requires t c κs = omega (arith, (relocate-slot-at-from-resolve (relocate-resolve-from-enum-told2 (c .before .before))) .slot-at .ensures, ways.here-low ((relocate-start-from-enum-told2 (c .before .before)) .pre .1) ((relocate-loop-from-enum-told2 (c .before .before)) .loop .inv .0) (ways.turn-of ((relocate-function-slots-from-enum-told2 (c .before .before)) .function-slots .ensures) ((relocate-turn-from-enum-told2 (c .before .before)) .loop-test .taken)) ((relocate-meaning2-from-enum-told2 (c .before .before)) .meaning2 .given .0 .0) ((relocate-meaning2-from-enum-told2 (c .before .before)) .meaning2 .given .0 .1 .0) ((relocate-meaning2-from-enum-told2 (c .before .before)) .meaning2 .given .1) (relocate-means (relocate-resolve-from-enum-told2 (c .before .before))) ((relocate-placed-from-enum-told2 (c .before .before)) .placed .ensures) (ap refusalIn (c .before .before .enum-told2 .given .1)))
+
+relocate-mul-slot-at : (t : ℕ) → relocate-lts.Need-mul-slot-at (relocate-claims t) (relocate-at t) relocate.Post relocate-Inv-loop2 relocate-μ-loop2 relocate-Inv-loop relocate-μ-loop
+relocate-mul-slot-at t c = omega (arith, ways.row-small ((relocate-start-from-after c) .pre .1 .asks .checked) (ways.asks-placed ((relocate-start-from-after c) .pre .1) ((relocate-loop-from-after c) .loop .inv .0) (ways.turn-of ((relocate-function-slots-from-after c) .function-slots .ensures) ((relocate-turn-from-after c) .loop-test .taken)) ((relocate-meaning2-from-after c) .meaning2 .given .0 .0) ((relocate-meaning2-from-after c) .meaning2 .given .0 .1 .0) ((relocate-meaning2-from-after c) .meaning2 .given .1) (relocate-means (relocate-resolve-from-after c)) .row-in))
+
+relocate-element-copy-out-slot-at : (t : ℕ) → relocate-lts.Need-element-copy-out-slot-at (relocate-claims t) (relocate-at t) relocate.Post relocate-Inv-loop2 relocate-μ-loop2 relocate-Inv-loop relocate-μ-loop
+relocate-element-copy-out-slot-at t c = ways.row-small ((relocate-start-from-after c) .pre .1 .asks .checked) (ways.asks-placed ((relocate-start-from-after c) .pre .1) ((relocate-loop-from-after c) .loop .inv .0) (ways.turn-of ((relocate-function-slots-from-after c) .function-slots .ensures) ((relocate-turn-from-after c) .loop-test .taken)) ((relocate-meaning2-from-after c) .meaning2 .given .0 .0) ((relocate-meaning2-from-after c) .meaning2 .given .0 .1 .0) ((relocate-meaning2-from-after c) .meaning2 .given .1) (relocate-means (relocate-resolve-from-after c)) .row-in)
+
+relocate-cast-slot-at : (t : ℕ) → relocate-lts.Need-cast-slot-at (relocate-claims t) (relocate-at t) relocate.Post relocate-Inv-loop2 relocate-μ-loop2 relocate-Inv-loop relocate-μ-loop
+relocate-cast-slot-at t c = omega (arith, ways.start-low ((relocate-start-from-after (c .before)) .pre .1) ((relocate-loop-from-after (c .before)) .loop .inv .0) (ways.turn-of ((relocate-function-slots-from-after (c .before)) .function-slots .ensures) ((relocate-turn-from-after (c .before)) .loop-test .taken)) ((relocate-meaning2-from-after (c .before)) .meaning2 .given .0 .0) ((relocate-meaning2-from-after (c .before)) .meaning2 .given .0 .1 .0) ((relocate-meaning2-from-after (c .before)) .meaning2 .given .1) (relocate-means (relocate-resolve-from-after (c .before))) ((relocate-placed-from-after (c .before)) .placed .ensures) (ap refusalIn ((relocate-enum-told2-from-after (c .before)) .enum-told2 .given .1)))
 
 relocate-slot-at-requires-2 : (t : ℕ) → relocate-lts.Need-slot-at-requires-2 (relocate-claims t) (relocate-at t) relocate.Post relocate-Inv-loop2 relocate-μ-loop2 relocate-Inv-loop relocate-μ-loop
 relocate-slot-at-requires-2 t c κs = search needs
 
-relocate-mul-slot-at : (t : ℕ) → relocate-lts.Need-mul-slot-at (relocate-claims t) (relocate-at t) relocate.Post relocate-Inv-loop2 relocate-μ-loop2 relocate-Inv-loop relocate-μ-loop
-relocate-mul-slot-at t c = omega (arith, ways.row-small ((relocate-start-from-slot-at2 c) .pre .1 .asks .checked) (ways.asks-placed ((relocate-start-from-slot-at2 c) .pre .1) ((relocate-loop-from-slot-at2 c) .loop .inv .0) (ways.turn-of ((relocate-function-slots-from-slot-at2 c) .function-slots .ensures) ((relocate-turn-from-slot-at2 c) .loop-test .taken)) ((relocate-meaning2-from-slot-at2 c) .meaning2 .given .0 .0) ((relocate-meaning2-from-slot-at2 c) .meaning2 .given .0 .1 .0) ((relocate-meaning2-from-slot-at2 c) .meaning2 .given .1) ((relocate-resolve-from-slot-at2 c) .resolve .ensures) .row-in))
-
-relocate-element-copy-out-slot-at : (t : ℕ) → relocate-lts.Need-element-copy-out-slot-at (relocate-claims t) (relocate-at t) relocate.Post relocate-Inv-loop2 relocate-μ-loop2 relocate-Inv-loop relocate-μ-loop
-relocate-element-copy-out-slot-at t c = ways.row-small ((relocate-start-from-slot-at2 c) .pre .1 .asks .checked) (ways.asks-placed ((relocate-start-from-slot-at2 c) .pre .1) ((relocate-loop-from-slot-at2 c) .loop .inv .0) (ways.turn-of ((relocate-function-slots-from-slot-at2 c) .function-slots .ensures) ((relocate-turn-from-slot-at2 c) .loop-test .taken)) ((relocate-meaning2-from-slot-at2 c) .meaning2 .given .0 .0) ((relocate-meaning2-from-slot-at2 c) .meaning2 .given .0 .1 .0) ((relocate-meaning2-from-slot-at2 c) .meaning2 .given .1) ((relocate-resolve-from-slot-at2 c) .resolve .ensures) .row-in)
-
-relocate-cast-slot-at : (t : ℕ) → relocate-lts.Need-cast-slot-at (relocate-claims t) (relocate-at t) relocate.Post relocate-Inv-loop2 relocate-μ-loop2 relocate-Inv-loop relocate-μ-loop
-relocate-cast-slot-at t c = omega (arith, ways.start-low ((relocate-start-from-slot-at2 (c .before)) .pre .1) ((relocate-loop-from-slot-at2 (c .before)) .loop .inv .0) (ways.turn-of ((relocate-function-slots-from-slot-at2 (c .before)) .function-slots .ensures) ((relocate-turn-from-slot-at2 (c .before)) .loop-test .taken)) ((relocate-meaning2-from-slot-at2 (c .before)) .meaning2 .given .0 .0) ((relocate-meaning2-from-slot-at2 (c .before)) .meaning2 .given .0 .1 .0) ((relocate-meaning2-from-slot-at2 (c .before)) .meaning2 .given .1) ((relocate-resolve-from-slot-at2 (c .before)) .resolve .ensures) ((relocate-placed-from-slot-at2 (c .before)) .placed .ensures) (ap refusalIn ((relocate-enum-told2-from-slot-at2 (c .before)) .enum-told2 .given .1)))
-
-relocate-slot-at-requires-3 : (t : ℕ) → relocate-lts.Need-slot-at-requires-3 (relocate-claims t) (relocate-at t) relocate.Post relocate-Inv-loop2 relocate-μ-loop2 relocate-Inv-loop relocate-μ-loop
-relocate-slot-at-requires-3 t c κs = search needs
-
 relocate-point-requires : (t : ℕ) → relocate-lts.Need-point-requires (relocate-claims t) (relocate-at t) relocate.Post relocate-Inv-loop2 relocate-μ-loop2 relocate-Inv-loop relocate-μ-loop
-relocate-point-requires t c κs = (omega (arith, ways.here-room ((relocate-start-from-slot-at3 c) .pre .1) ((relocate-loop-from-slot-at3 c) .loop .inv .0) (ways.turn-of ((relocate-function-slots-from-slot-at3 c) .function-slots .ensures) ((relocate-turn-from-slot-at3 c) .loop-test .taken)) ((relocate-meaning2-from-slot-at3 c) .meaning2 .given .0 .0) ((relocate-meaning2-from-slot-at3 c) .meaning2 .given .0 .1 .0) ((relocate-meaning2-from-slot-at3 c) .meaning2 .given .1) ((relocate-resolve-from-slot-at3 c) .resolve .ensures) ((relocate-placed-from-slot-at3 c) .placed .ensures) (ap refusalIn ((relocate-enum-told2-from-slot-at3 c) .enum-told2 .given .1)), c .before .before .slot-at2 .ensures), (omega (arith, ways.start-low ((relocate-start-from-slot-at3 c) .pre .1) ((relocate-loop-from-slot-at3 c) .loop .inv .0) (ways.turn-of ((relocate-function-slots-from-slot-at3 c) .function-slots .ensures) ((relocate-turn-from-slot-at3 c) .loop-test .taken)) ((relocate-meaning2-from-slot-at3 c) .meaning2 .given .0 .0) ((relocate-meaning2-from-slot-at3 c) .meaning2 .given .0 .1 .0) ((relocate-meaning2-from-slot-at3 c) .meaning2 .given .1) ((relocate-resolve-from-slot-at3 c) .resolve .ensures) ((relocate-placed-from-slot-at3 c) .placed .ensures) (ap refusalIn ((relocate-enum-told2-from-slot-at3 c) .enum-told2 .given .1)), c .slot-at3 .ensures), omega (arith, ways.here-low ((relocate-start-from-slot-at3 c) .pre .1) ((relocate-loop-from-slot-at3 c) .loop .inv .0) (ways.turn-of ((relocate-function-slots-from-slot-at3 c) .function-slots .ensures) ((relocate-turn-from-slot-at3 c) .loop-test .taken)) ((relocate-meaning2-from-slot-at3 c) .meaning2 .given .0 .0) ((relocate-meaning2-from-slot-at3 c) .meaning2 .given .0 .1 .0) ((relocate-meaning2-from-slot-at3 c) .meaning2 .given .1) ((relocate-resolve-from-slot-at3 c) .resolve .ensures) ((relocate-placed-from-slot-at3 c) .placed .ensures) (ap refusalIn ((relocate-enum-told2-from-slot-at3 c) .enum-told2 .given .1)), c .before .before .slot-at2 .ensures)))
+relocate-point-requires t c κs = (omega (arith, ways.here-room ((relocate-start-from-slot-at2 c) .pre .1) ((relocate-loop-from-slot-at2 c) .loop .inv .0) (ways.turn-of ((relocate-function-slots-from-slot-at2 c) .function-slots .ensures) ((relocate-turn-from-slot-at2 c) .loop-test .taken)) ((relocate-meaning2-from-slot-at2 c) .meaning2 .given .0 .0) ((relocate-meaning2-from-slot-at2 c) .meaning2 .given .0 .1 .0) ((relocate-meaning2-from-slot-at2 c) .meaning2 .given .1) (relocate-means (relocate-resolve-from-slot-at2 c)) ((relocate-placed-from-slot-at2 c) .placed .ensures) (ap refusalIn ((relocate-enum-told2-from-slot-at2 c) .enum-told2 .given .1)), c .before .before .after .ensures, (relocate-slot-at-from-resolve (relocate-resolve-from-slot-at2 c)) .slot-at .ensures), (omega (arith, ways.start-low ((relocate-start-from-slot-at2 c) .pre .1) ((relocate-loop-from-slot-at2 c) .loop .inv .0) (ways.turn-of ((relocate-function-slots-from-slot-at2 c) .function-slots .ensures) ((relocate-turn-from-slot-at2 c) .loop-test .taken)) ((relocate-meaning2-from-slot-at2 c) .meaning2 .given .0 .0) ((relocate-meaning2-from-slot-at2 c) .meaning2 .given .0 .1 .0) ((relocate-meaning2-from-slot-at2 c) .meaning2 .given .1) (relocate-means (relocate-resolve-from-slot-at2 c)) ((relocate-placed-from-slot-at2 c) .placed .ensures) (ap refusalIn ((relocate-enum-told2-from-slot-at2 c) .enum-told2 .given .1)), c .slot-at2 .ensures), omega (arith, ways.here-low ((relocate-start-from-slot-at2 c) .pre .1) ((relocate-loop-from-slot-at2 c) .loop .inv .0) (ways.turn-of ((relocate-function-slots-from-slot-at2 c) .function-slots .ensures) ((relocate-turn-from-slot-at2 c) .loop-test .taken)) ((relocate-meaning2-from-slot-at2 c) .meaning2 .given .0 .0) ((relocate-meaning2-from-slot-at2 c) .meaning2 .given .0 .1 .0) ((relocate-meaning2-from-slot-at2 c) .meaning2 .given .1) (relocate-means (relocate-resolve-from-slot-at2 c)) ((relocate-placed-from-slot-at2 c) .placed .ensures) (ap refusalIn ((relocate-enum-told2-from-slot-at2 c) .enum-told2 .given .1)), c .before .before .after .ensures, (relocate-slot-at-from-resolve (relocate-resolve-from-slot-at2 c)) .slot-at .ensures)))
 
 relocate-add-slot-2 : (t : ℕ) → relocate-lts.Need-add-slot-2 (relocate-claims t) (relocate-at t) relocate.Post relocate-Inv-loop2 relocate-μ-loop2 relocate-Inv-loop relocate-μ-loop
 relocate-add-slot-2 t c = omega (arith, (ways.slots-low ((relocate-start-from-point (c .before .before)) .pre .1)), (ways.turn-of ((relocate-function-slots-from-point (c .before .before)) .function-slots .ensures) ((relocate-turn-from-point (c .before .before)) .loop-test .taken)))
@@ -946,7 +981,7 @@ relocate-loop-less-2 : (t : ℕ) → relocate-lts.Need-loop-less-2 (relocate-cla
 relocate-loop-less-2 t c = omega (arith, (ways.turn-of ((relocate-function-slots-from-point (c .before .before)) .function-slots .ensures) ((relocate-turn-from-point (c .before .before)) .loop-test .taken)), (relocate-turn-from-point (c .before .before)) .loop-test .taken)
 
 relocate-loop-again-2 : (t : ℕ) → relocate-lts.Need-loop-again-2 (relocate-claims t) (relocate-at t) relocate.Post relocate-Inv-loop2 relocate-μ-loop2 relocate-Inv-loop relocate-μ-loop
-relocate-loop-again-2 t c = (ways.on-pointed ((relocate-start-from-point (c .before .before)) .pre .1) ((relocate-loop-from-point (c .before .before)) .loop .inv .0) (ways.turn-of ((relocate-function-slots-from-point (c .before .before)) .function-slots .ensures) ((relocate-turn-from-point (c .before .before)) .loop-test .taken)) ((relocate-meaning2-from-point (c .before .before)) .meaning2 .given .0 .0) ((relocate-meaning2-from-point (c .before .before)) .meaning2 .given .0 .1 .0) ((relocate-meaning2-from-point (c .before .before)) .meaning2 .given .1) ((relocate-resolve-from-point (c .before .before)) .resolve .ensures) ((relocate-placed-from-point (c .before .before)) .placed .ensures) (ap refusalIn ((relocate-enum-told2-from-point (c .before .before)) .enum-told2 .given .1)) _ ((relocate-slot-at2-from-point (c .before .before)) .slot-at2 .ensures) (c .before .before .before .slot-at3 .ensures) (c .before .before .point .ensures), ((relocate-loop2-from-point (c .before .before)) .loop2 .inv .0, ways.behind-next ((relocate-start-from-point (c .before .before)) .pre .1) ((relocate-loop-from-point (c .before .before)) .loop .slot) ((relocate-loop2-from-point (c .before .before)) .loop2 .cur) ((relocate-loop2-from-point (c .before .before)) .loop2 .inv .1)))
+relocate-loop-again-2 t c = (ways.on-pointed ((relocate-start-from-point (c .before .before)) .pre .1) ((relocate-loop-from-point (c .before .before)) .loop .inv .0) (ways.turn-of ((relocate-function-slots-from-point (c .before .before)) .function-slots .ensures) ((relocate-turn-from-point (c .before .before)) .loop-test .taken)) ((relocate-meaning2-from-point (c .before .before)) .meaning2 .given .0 .0) ((relocate-meaning2-from-point (c .before .before)) .meaning2 .given .0 .1 .0) ((relocate-meaning2-from-point (c .before .before)) .meaning2 .given .1) (relocate-means (relocate-resolve-from-point (c .before .before))) ((relocate-placed-from-point (c .before .before)) .placed .ensures) (ap refusalIn ((relocate-enum-told2-from-point (c .before .before)) .enum-told2 .given .1)) _ (here-is (relocate-after-from-point (c .before .before))) (c .before .before .before .slot-at2 .ensures) (c .before .before .point .ensures), ((relocate-loop2-from-point (c .before .before)) .loop2 .inv .0, ways.behind-next ((relocate-start-from-point (c .before .before)) .pre .1) ((relocate-loop-from-point (c .before .before)) .loop .slot) ((relocate-loop2-from-point (c .before .before)) .loop2 .cur) ((relocate-loop2-from-point (c .before .before)) .loop2 .inv .1)))
 
 relocate-same-length-7 : (t : ℕ) → relocate-lts.Need-same-length-7 (relocate-claims t) (relocate-at t) relocate.Post relocate-Inv-loop2 relocate-μ-loop2 relocate-Inv-loop relocate-μ-loop
 relocate-same-length-7 t c = ap (λ x. x .image) (c .before .loop .inv .0 .lengths)
@@ -981,6 +1016,8 @@ pub +link-function+placed+relocate-spec : {M : Type 1} → statement M
     (link-function-cast-next t)
     (link-function-mul-next t)
     (link-function-element-write-next t)
+    (link-function-slot-at-requires t)
+    (link-function-slot-at-requires-2 t)
     (link-function-relocate-requires t)
     (link-function-same-length t)
     (link-function-same-length-2 t)
@@ -1036,12 +1073,11 @@ pub +link-function+placed+relocate-spec : {M : Type 1} → statement M
     (relocate-same-length-5 t)
     (relocate-same-length-6 t)
     (relocate-returns-2 t)
-    (relocate-add-slot-at t)
-    (relocate-slot-at-requires-2 t)
+    (relocate-after-requires t)
     (relocate-mul-slot-at t)
     (relocate-element-copy-out-slot-at t)
     (relocate-cast-slot-at t)
-    (relocate-slot-at-requires-3 t)
+    (relocate-slot-at-requires-2 t)
     (relocate-point-requires t)
     (relocate-add-slot-2 t)
     (relocate-loop-less-2 t)

@@ -1,10 +1,13 @@
 -- The invariant: rewriting the functions that are left gives table 6 and the count.
 -- Assumes nothing.
+use mathlib.Core.Path.{sym, subst}
 use Prim.Native.Nat.{_-_}
 use native.Mathlib.Omega.{arith}
+use borrow.Author.Needs.{needs}
 use Rattle.rules.specs.declared.Table.the-variants.{Functions, Relocations}
-use Rattle.rules.specs.Rows.{mapStepOffer}
+use Rattle.rules.specs.Rows.{Offered, mapStepOffer}
 use Rattle.rules.proofs.Passed.{few-rows}
+use Rattle.judge.specs.Judged.{RowAsked}
 use Rattle.maps.proofs.Passes.{slots-low}
 use Rattle.maps.proofs.Rewriting.{RewriteRows, rewrite-rows-start, rewrite-rows-end, rewrite-rows-asked, rewrite-rows-next}
 use Rattle.maps.proofs.rewrite_all.Statement.{statement}
@@ -20,17 +23,26 @@ abbrev μ-loop : tie.MeasureT-loop
 abbrev start : tie.At-loop Inv-loop μ-loop → tie.Start Inv-loop μ-loop
 start l = l .before .before .before .before .before .before .before
 
+-- the tables with table 6 as it is
+abbrev now-offered : tie.At-loop Inv-loop μ-loop → Offered
+now-offered l =
+    let a = start l .args in
+    mapStepOffer (a .code .now) (a .symbols .now) (a .functions .now) (a .relocations .now) (a .maps .now) (l .loop .instructions)
+
 -- a function is rewritten
 abbrev inside : tie.After-rewrite-function Inv-loop μ-loop → tie.In-loop Inv-loop μ-loop
-inside n = n .before .before
+inside n = n .before .before .before
 
 loop-holds : tie.Need-loop-holds Inv-loop μ-loop
 loop-holds c = rewrite-rows-start _
 
 rewrite-function-requires : tie.Need-rewrite-function-requires Inv-loop μ-loop
 rewrite-function-requires c κs =
-    let l = c .before .before in
-    rewrite-rows-asked (start l .pre) (l .loop .inv) (omega (arith, c .before .loop-test .taken))
+    let l = c .before .before .before in
+    subst (RowAsked (now-offered l) (l .loop .row)) (sym (c .slot-at .ensures)) (rewrite-rows-asked (start l .pre) (l .loop .inv) (omega (arith, c .before .before .loop-test .taken)))
+
+slot-at-requires : tie.Need-slot-at-requires Inv-loop μ-loop
+slot-at-requires c κs = search needs
 
 add-count : tie.Need-add-count Inv-loop μ-loop
 add-count c =
@@ -75,6 +87,7 @@ rewrite-all-spec =
     Inv-loop
     μ-loop
     loop-holds
+    slot-at-requires
     rewrite-function-requires
     add-count
     function-slots-requires

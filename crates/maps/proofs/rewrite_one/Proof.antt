@@ -19,8 +19,8 @@ offered s = offeredMaps (s .args .code) (s .args .symbols) (s .args .functions) 
 abbrev start : tie.After-judge → tie.Start
 start n = n .before .before .before .before .before .before .before .before
 
-said : (n : tie.After-judge) (v : Verdict) → n .judge .result ≡ v → Judges (offered (start n)) (start n .args .row) (start n .args .first) (start n .args .k) v
-said n v e = subst (λ (w : Verdict). Judges (offered (start n)) (start n .args .row) (start n .args .first) (start n .args .k) w) e (n .judge .ensures)
+said : (n : tie.After-judge) (v : Verdict) → n .judge .result ≡ v → Judges (offered (start n)) (start n .args .row) (start n .args .first .0) (start n .args .k) v
+said n v e = subst (λ (w : Verdict). Judges (offered (start n)) (start n .args .row) (start n .args .first .0) (start n .args .k) w) e (n .judge .ensures)
 
 -- the verdict applies: without data, and with
 abbrev plainly : tie.After-known-told → tie.After-judge

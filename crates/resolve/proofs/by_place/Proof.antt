@@ -14,23 +14,20 @@ use Rattle.resolve.proofs.Targets.{passed-on, slots-from}
 use Rattle.resolve.proofs.by_place.Statement.{statement}
 use Rattle.resolve.proofs.by_place.Tie as tie
 
-abbrev start : tie.After-slot-at → tie.Start
-start h = h .before .before .before
+abbrev start : tie.After-function-offset → tie.Start
+start h = h .before .before
 
 place-is : (p : tie.After-place) → p .place .result .0
-    ≡ functionOffset (start (p .before) .args .functions .now) (start (p .before) .args .row) + 8 * start (p .before) .args .slot
-place-is p = omega (arith, p .place .ensures .0, p .before .slot-at .ensures, p .before .before .function-offset .ensures)
+    ≡ functionOffset (start (p .before) .args .functions .now) (start (p .before) .args .row) + 8 * start (p .before) .args .slot .0
+place-is p = omega (arith, p .place .ensures .0, p .before .function-offset .ensures)
 
 function-offset-requires : tie.Need-function-offset-requires
 function-offset-requires c κs = search needs
 
-slot-at-requires : tie.Need-slot-at-requires
-slot-at-requires c κs = search needs
-
 place-requires : tie.Need-place-requires
 place-requires c κs =
     let s = start c in
-    omega (arith, c .before .function-offset .ensures, good-function (s .args .functions .now) (s .pre .0) (s .args .row) (s .pre .1) .offset)
+    omega (arith, c .function-offset .ensures, good-function (s .args .functions .now) (s .pre .0) (s .args .row) (s .pre .1) .offset)
 
 function-section-requires : tie.Need-function-section-requires
 function-section-requires c κs = search needs
@@ -55,7 +52,6 @@ by-place-spec =
     tie.close
     (tie.spec
     function-offset-requires
-    slot-at-requires
     place-requires
     function-section-requires
     call-target-requires

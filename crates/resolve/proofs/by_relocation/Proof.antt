@@ -13,8 +13,7 @@ use Rattle.rules.specs.Bytes.{little, slotIn}
 use Rattle.rules.specs.Tables.{orMissing, slotsOn, bySymbolRow, byRelocation}
 use Rattle.rules.specs.Rows.{wholeRows, Offered, tablesOf, functionSection, functionOffset, functionRow, relocationSymbol, relocationSize, relocationRow, symbolRow}
 use Rattle.rules.specs.Lent.{offeredCode}
-use Rattle.rules.specs.Lookups.{functionWith, symbolWith}
-use Rattle.rules.proofs.Searches.{read}
+use Rattle.rules.specs.Lookups.{functionWith, symbolWith, readRow}
 use Rattle.resolve.specs.Means.{optionOf, targets}
 use Rattle.resolve.specs.Resolves.{Within}
 use Rattle.resolve.proofs.Targets.{own-call, not-call, related}
@@ -35,8 +34,8 @@ insn s = slotIn little (s .args .instructions .now) (s .args .at .0)
 
 abbrev named : tie.Start → Found → Named
 named s f =
-    byRelocation (tablesOf little (tables s)) (read (relocationRow (tables s .relocations)) (optionOf f)) (functionRow (tables s .functions) (s .args .row))
-    (s .args .slot) (insn s)
+    byRelocation (tablesOf little (tables s)) (readRow (relocationRow (tables s .relocations)) (optionOf f)) (functionRow (tables s .functions) (s .args .row))
+    (s .args .slot .0) (insn s)
 
 enum-told : tie.Need-enum-told
 enum-told c = search needs
@@ -56,9 +55,9 @@ returns c =
     let s = start n in
     let f = s .args .functions .now in
     c .by-place .ensures
-    ∙ ap (λ (z : ℤ). orMissing (functionWith f (functionSection f (s .args .row)) (pos (functionOffset f (s .args .row) + 8 * s .args .slot) +ℤ slotsOn z)))
+    ∙ ap (λ (z : ℤ). orMissing (functionWith f (functionSection f (s .args .row)) (pos (functionOffset f (s .args .row) + 8 * s .args .slot .0) +ℤ slotsOn z)))
     (toZ-ofZ w32 _ (record { sfits = c .before .immediate .ok }) ∙ c .before .immediate .ensures)
-    ∙ sym (own-call (tables s) (s .args .row) (s .args .slot) (insn s)
+    ∙ sym (own-call (tables s) (s .args .row) (s .args .slot .0) (insn s)
     (sym (c .before .before .before .insn-is-call .ensures) ∙ c .before .before .if1 .taken))
     ∙ ap (named s) (sym (n .enum-told .given .1))
 
@@ -66,7 +65,7 @@ returns-2 : tie.Need-returns-2
 returns-2 c =
     let n = c .before .before in
     let s = start n in
-    sym (not-call (tables s) (s .args .row) (s .args .slot) (insn s)
+    sym (not-call (tables s) (s .args .row) (s .args .slot .0) (insn s)
     (sym (c .before .insn-is-call .ensures) ∙ c .if1 .left))
     ∙ ap (named s) (sym (n .enum-told .given .1))
 
@@ -94,9 +93,9 @@ returns-3 c =
     let row = k .before .rel .given .0 .0 in
     c .by-row .ensures
     ∙ ap (bySymbolRow (targets (s .args .code .now) (s .args .functions .now))
-    (read (symbolRow (s .args .symbols .now)) (symbolWith (s .args .symbols .now) (relocationSymbol (s .args .relocations .now) row)))
+    (readRow (symbolRow (s .args .symbols .now)) (symbolWith (s .args .symbols .now) (relocationSymbol (s .args .relocations .now) row)))
     (relocationSize (s .args .relocations .now) row)) (toZ-ofZ w32 _ (record { sfits = c .before .immediate2 .ok }) ∙ c .before .immediate2 .ensures)
-    ∙ sym (related (tables s) (s .args .row) (s .args .slot) (insn s) row)
+    ∙ sym (related (tables s) (s .args .row) (s .args .slot .0) (insn s) row)
     ∙ ap (named s) (sym (k .before .rel .given .1))
 
 pub by-relocation-spec : {M : Type 1} → statement M

@@ -13,8 +13,7 @@ use Rattle.rules.specs.declared.Found.{Found}
 use Rattle.rules.specs.Object.{Named}
 use Rattle.rules.specs.Tables.{bySymbolRow}
 use Rattle.rules.specs.Rows.{rowSize, symbolRow, relocationSymbol, relocationSize}
-use Rattle.rules.specs.Lookups.{foundOf, symbolWith}
-use Rattle.rules.proofs.Searches.{read}
+use Rattle.rules.specs.Lookups.{foundOf, symbolWith, readRow}
 use Rattle.rules.proofs.Passed.{whole, good-symbol}
 use Rattle.rows.proofs.Laws.{SymbolFound, symbol-found}
 use Rattle.resolve.specs.Means.{optionOf, targets}
@@ -34,7 +33,7 @@ found-is c = c .find-symbol .ensures ∙ ap (λ (n : ℕ). foundOf (symbolWith (
 abbrev bySymbolOf : (c : tie.After-find-symbol) → Option ℕ → Named
 bySymbolOf c o =
     let a = start c .args in
-    bySymbolRow (targets (a .code .now) (a .functions .now)) (read (symbolRow (a .symbols .now)) o) (relocationSize (a .relocations .now) (a .k)) (a .imm)
+    bySymbolRow (targets (a .code .now) (a .functions .now)) (readRow (symbolRow (a .symbols .now)) o) (relocationSize (a .relocations .now) (a .k)) (a .imm)
 
 as-found : (c : tie.After-find-symbol) {f : Found} → f ≡ c .find-symbol .result → bySymbolOf c (optionOf f) ≡ bySymbolOf c (symbolWith (start c .args .symbols .now) (index c))
 as-found c e = ap (λ (f : Found). bySymbolOf c (optionOf f)) (e ∙ found-is c) ∙ ap (bySymbolOf c) (option-found (symbolWith (start c .args .symbols .now) (index c)))

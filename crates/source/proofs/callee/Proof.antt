@@ -17,8 +17,8 @@ use Rattle.source.specs.Moves.{objectIn, calledBy}
 use Rattle.source.proofs.callee.Statement.{statement}
 use Rattle.source.proofs.callee.Tie as tie
 
-abbrev start : tie.After-slot-at → tie.Start
-start h = h .before .before .before .before .before .before .before
+abbrev start : tie.After-function-offset → tie.Start
+start h = h .before .before .before .before .before .before
 
 abbrev placed : tie.After-resolve → tie.After-place
 placed n = n .before .before .before
@@ -30,28 +30,25 @@ abbrev tables : tie.Start → Offered
 tables s = offeredCode (s .args .code) (s .args .symbols) (s .args .functions) (s .args .relocations) (s .args .instructions)
 
 place-is : (p : tie.After-place) → p .place .result .0
-    ≡ functionOffset (start (p .before) .args .functions .now) (start (p .before) .args .row) + 8 * start (p .before) .args .slot
-place-is p = omega (arith, p .place .ensures .0, p .before .slot-at .ensures, p .before .before .function-offset .ensures)
+    ≡ functionOffset (start (p .before) .args .functions .now) (start (p .before) .args .row) + 8 * start (p .before) .args .slot .0
+place-is p = omega (arith, p .place .ensures .0, p .before .function-offset .ensures)
 
 -- what was resolved, of any answer
 meant : (n : tie.After-resolve) (q : Meaning) → n .resolve .result ≡ q
-    → Means (asked n .args .row) (asked n .args .slot) q (object.meaning (objectIn (tables (asked n))) (asked n .args .row) (asked n .args .slot))
+    → Means (asked n .args .row) (asked n .args .slot .0) q (object.meaning (objectIn (tables (asked n))) (asked n .args .row) (asked n .args .slot .0))
 meant n q e =
     let a = asked n .args in
-    subst (λ (m : Meaning). Means (a .row) (a .slot) m (object.meaning (objectIn (tables (asked n))) (a .row) (a .slot))) e (n .resolve .ensures)
+    subst (λ (m : Meaning). Means (a .row) (a .slot .0) m (object.meaning (objectIn (tables (asked n))) (a .row) (a .slot .0))) e (n .resolve .ensures)
 
 function-offset-requires : tie.Need-function-offset-requires
 function-offset-requires c κs = search needs
-
-slot-at-requires : tie.Need-slot-at-requires
-slot-at-requires c κs = search needs
 
 place-requires : tie.Need-place-requires
 place-requires c κs =
     let s = start c in
     omega (
       arith,
-      c .before .function-offset .ensures,
+      c .function-offset .ensures,
       good-function (s .args .functions .now) (s .pre .tables .functions) (s .args .row) (s .pre .row-inside) .offset,
     )
 
@@ -110,7 +107,6 @@ callee-spec =
     tie.close
     (tie.spec
     function-offset-requires
-    slot-at-requires
     place-requires
     function-section-requires
     find-relocation-requires

@@ -3,6 +3,7 @@
 use mathlib.Core.Path.{_≡_, refl, ap, _∙_}
 use Prim.Native.Nat.{_-_, _≤_}
 use native.Mathlib.Omega.{arith}
+use borrow.Author.Needs.{needs}
 use Rattle.rules.specs.declared.Table.the-variants.{Functions}
 use Rattle.rules.specs.Rows.{mostFunctionSlots, functionSlots, summed}
 use Rattle.rules.proofs.Searches.{summed-step, summed-bound}
@@ -55,12 +56,15 @@ loop-again c =
     let t = l .before .before .args .functions .now in
     (omega arith, omega (arith, summed-step (functionSlots t) (l .loop .k), l .loop .inv .1, n .function-slots .ensures))
 
+slot-at-requires : tie.Need-slot-at-requires Inv-loop μ-loop
+slot-at-requires c κs = search needs
+
 returns : tie.Need-returns Inv-loop μ-loop
 returns c =
-    let l = c .before .loop in
-    let a = c .before .before .before .args in
+    let l = c .before .before .loop in
+    let a = c .before .before .before .before .args in
     let e : l .k ≡ a .row = omega arith in
-    l .inv .1 ∙ ap (summed (functionSlots (a .functions .now)) 0) e
+    c .slot-at .ensures ∙ l .inv .1 ∙ ap (summed (functionSlots (a .functions .now)) 0) e
 
 pub first-slot-spec : {M : Type 1} → statement M
 first-slot-spec =
@@ -74,4 +78,5 @@ first-slot-spec =
     add-k
     loop-less
     loop-again
+    slot-at-requires
     returns)

@@ -35,31 +35,28 @@ tables n = offeredCode (start n .args .code) (start n .args .symbols) (start n .
 abbrev named : tie.After-leads-at → Found
 named n =
     let a = start n .args in
-    calledBy (meaning (objectIn (tables n)) (a .row) (a .slot))
+    calledBy (meaning (objectIn (tables n)) (a .row) (a .slot .0))
 
 seen : (n : tie.After-leads-at) (m : move.Move) → n .leads-at .result ≡ m
     → sourced (start n .args .row) (named n) (moveOf m)
-    ≡ inSource (objectIn (tables n)) (place (start n .args .row) (pos (start n .args .slot)))
+    ≡ inSource (objectIn (tables n)) (place (start n .args .row) (pos (start n .args .slot .0)))
 seen n m e =
     let a = start n .args in
     ap (λ (o : Option (Move ℤ)). sourced (a .row) (named n) o)
-    (ap moveOf (sym e) ∙ n .leads-at .ensures ∙ ap (λ (k : ℕ). leadsIn (slotIn little (a .instructions .now) k) (a .slot)) (n .before .slot-at .ensures))
+    (ap moveOf (sym e) ∙ n .leads-at .ensures ∙ ap (λ (k : ℕ). leadsIn (slotIn little (a .instructions .now) k) (a .slot .0)) (n .before .after .ensures))
     ∙ sym (source-inside (start n .pre .1)
-    ∙ sourced-is (slotIn little (a .instructions .now) (a .first + a .slot)) (a .row) (a .slot)
-    (meaning (objectIn (tables n)) (a .row) (a .slot)))
+    ∙ sourced-is (slotIn little (a .instructions .now) (a .first .0 + a .slot .0)) (a .row) (a .slot .0)
+    (meaning (objectIn (tables n)) (a .row) (a .slot .0)))
 
-add-slot-at : tie.Need-add-slot-at
-add-slot-at c =
+after-requires : tie.Need-after-requires
+after-requires c κs =
     let s = c .before .before .before .before .before in
-    record { fits = omega (arith, first-low (resolves (s .pre .1)), slots-low (resolves (s .pre .1)), s .pre .1 .slot-inside) }
-
-slot-at-requires : tie.Need-slot-at-requires
-slot-at-requires c κs = search needs
+    omega (arith, first-low (resolves (s .pre .1)), slots-low (resolves (s .pre .1)), s .pre .1 .slot-inside)
 
 leads-at-requires : tie.Need-leads-at-requires
 leads-at-requires c κs =
     let s = c .before .before .before .before .before .before in
-    (s .pre .0 .table, omega (arith, end-inside (resolves (s .pre .1)), s .pre .1 .slot-inside, c .slot-at .ensures))
+    (s .pre .0 .table, omega (arith, end-inside (resolves (s .pre .1)), s .pre .1 .slot-inside, c .after .ensures))
 
 enum-told : tie.Need-enum-told
 enum-told c = search needs
@@ -123,8 +120,7 @@ pub move-at-spec : {M : Type 1} → statement M
 move-at-spec =
     tie.close
     (tie.spec
-    add-slot-at
-    slot-at-requires
+    after-requires
     leads-at-requires
     enum-told
     returns

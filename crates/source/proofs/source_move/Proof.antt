@@ -3,7 +3,7 @@
 use mathlib.Core.Path.{_≡_, sym, ap, _∙_}
 use Prim.Native.Nat.{ℕ}
 use native.Mathlib.Omega.{arith}
-use lib.IntN.{ℤ}
+use lib.IntN.{ℤ, pos}
 use mir.Syntax.{w64}
 use mir.ValLaws.{toZ-ofZ}
 use borrow.Author.Needs.{needs}
@@ -58,26 +58,35 @@ first-slot-requires c κs =
     let f = c .before in
     (start (f .before .before) .pre .tables .functions, in-row f .row-inside)
 
-cast-move-at : tie.Need-cast-move-at
-cast-move-at c =
+cast-slot-at : tie.Need-cast-slot-at
+cast-slot-at c =
     let f = c .before .before in
     let s = start (f .before .before) in
     record { fits = omega (arith, in-row f .slot-inside, good-function (s .args .functions .now) (s .pre .tables .functions) (s .args .row) (in-row f .row-inside) .slots-high) }
 
+slot-at-requires : tie.Need-slot-at-requires
+slot-at-requires c κs = search needs
+
 move-at-requires : tie.Need-move-at-requires
 move-at-requires c κs =
-    let f = c .before .before in
+    let f = c .before .before .before in
     let s = start (f .before .before) in (
       s .pre,
-      record { tables = s .pre .tables; row-inside = in-row f .row-inside; slot-inside = in-row f .slot-inside; first-is = c .first-slot .ensures },
+      record {
+        tables = s .pre .tables;
+        row-inside = in-row f .row-inside;
+        slot-inside = omega (arith, in-row f .slot-inside, c .slot-at .ensures);
+        first-is = c .before .first-slot .ensures;
+      },
     )
 
 returns-2 : tie.Need-returns-2
 returns-2 c =
-    let f = c .before .before .before in
+    let f = c .before .before .before .before in
     let n = f .before .before in
     let a = start n .args in
     c .move-at .ensures
+    ∙ ap (λ (k : ℕ). inSource (objectIn (tables n)) (place (a .row) (pos k))) (c .before .slot-at .ensures)
     ∙ ap (λ (z : ℤ). inSource (objectIn (tables n)) (place (a .row) z)) (sym (lies-at f .place))
 
 pub source-move-spec : {M : Type 1} → statement M
@@ -90,6 +99,7 @@ source-move-spec =
     returns
     enum-known-found
     first-slot-requires
-    cast-move-at
+    cast-slot-at
+    slot-at-requires
     move-at-requires
     returns-2)

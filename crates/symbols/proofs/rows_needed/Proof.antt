@@ -28,10 +28,10 @@ add-result : tie.Need-add-result
 add-result c = search needs
 
 returns : tie.Need-returns
-returns c = (over (c .before .args .count) (c .if1 .taken), omega arith)
+returns c = over (c .before .args .count) (c .if1 .taken)
 
 returns-2 : tie.Need-returns-2
-returns-2 c = (few (c .before .args .count) (c .if1 .left), omega (arith, c .if1 .left))
+returns-2 c = few (c .before .args .count) (c .if1 .left)
 
 pub rows-needed-spec : {M : Type 1} → statement M
 rows-needed-spec = tie.close (tie.spec add-result returns returns-2)

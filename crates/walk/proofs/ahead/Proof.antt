@@ -11,8 +11,8 @@ use Rattle.insn.proofs.Sums.{Summands, widens, widened, address-is, byte-fits}
 use Rattle.walk.proofs.ahead.Statement.{statement}
 use Rattle.walk.proofs.ahead.Tie as tie
 
-summands : (c : tie.Start) → Summands (c .args .slot + c .args .by) (c .args .d)
-summands c = record { low = omega arith; fits = c .fits .d }
+summands : (c : tie.After-struct-known) → Summands (c .before .args .slot .0 + c .before .args .by) (c .before .args .d)
+summands c = record { low = omega arith; fits = c .before .fits .d }
 
 add-result : tie.Need-add-result
 add-result c = search needs
@@ -21,7 +21,10 @@ cast-result : tie.Need-cast-result
 cast-result c = search needs
 
 cast-result-2 : tie.Need-cast-result-2
-cast-result-2 c = widens (c .fits .d)
+cast-result-2 c = search needs
+
+cast-result-3 : tie.Need-cast-result-3
+cast-result-3 c = widens (c .before .fits .d)
 
 add-result-2 : tie.Need-add-result-2
 add-result-2 c =
@@ -31,7 +34,7 @@ add-result-2 c =
 returns : tie.Need-returns
 returns c =
     let s = summands c in
-    rw (address-is s, widened s) (toZ-ofZ w64 _ (byte-fits s)) ∙ +ℤ-assoc (pos (c .args .slot)) (pos (c .args .by)) (c .args .d)
+    rw (address-is s, widened s) (toZ-ofZ w64 _ (byte-fits s)) ∙ +ℤ-assoc (pos (c .before .args .slot .0)) (pos (c .before .args .by)) (c .before .args .d)
 
 pub ahead-spec : {M : Type 1} → statement M
-ahead-spec = tie.close (tie.spec add-result cast-result cast-result-2 add-result-2 returns)
+ahead-spec = tie.close (tie.spec cast-result add-result cast-result-2 cast-result-3 add-result-2 returns)

@@ -37,8 +37,8 @@ returns c =
 enum-known-found : tie.Need-enum-known-found
 enum-known-found c = search needs
 
-cast-n : tie.Need-cast-n
-cast-n c = record { fits = omega (arith, lies-at (c .before) .low) }
+cast-slot-at : tie.Need-cast-slot-at
+cast-slot-at c = record { fits = omega (arith, lies-at (c .before) .low) }
 
 slot-at-requires : tie.Need-slot-at-requires
 slot-at-requires c κs = search needs
@@ -55,7 +55,7 @@ returns-2 c =
     let s = start (f .before .before) in
     let k = f .found .given .0 .0 in
     c .leads-at .ensures
-    ∙ ap (λ (m : ℕ). leadsIn (slotIn little (s .args .image .now) m) k) (c .before .slot-at .ensures)
+    ∙ ap (λ (m : ℕ). leadsIn (slotIn little (s .args .image .now) m) m) (c .before .slot-at .ensures)
     ∙ sym (image-at (s .pre) k (lies-at f .low))
     ∙ ap (inImage (imageIn (s .args .image .now) (s .args .slots))) (sym (lies-at f .place))
 
@@ -67,7 +67,7 @@ image-move-spec =
     enum-told
     returns
     enum-known-found
-    cast-n
+    cast-slot-at
     slot-at-requires
     leads-at-requires
     returns-2)

@@ -55,7 +55,7 @@ returns : tie.Need-returns
 returns c =
     let n = c .before .before .before in
     went (sum (record { sfits = c .ahead .ok }) (c .ahead .ensures))
-    ∙ sym (by-kind (insn n) (start n .args .slot) Plain (kind-is n Plain (c .before .enum-told .given .1)))
+    ∙ sym (by-kind (insn n) (start n .args .slot .0) Plain (kind-is n Plain (c .before .enum-told .given .1)))
 
 enum-told-2 : tie.Need-enum-told-2
 enum-told-2 c = search needs
@@ -67,7 +67,7 @@ returns-2 : tie.Need-returns-2
 returns-2 c =
     let n = c .before .before .before in
     went (sum (record { sfits = c .ahead2 .ok }) (c .ahead2 .ensures))
-    ∙ sym (by-kind (insn n) (start n .args .slot) WideLoad (kind-is n WideLoad (c .before .enum-told2 .given .1)))
+    ∙ sym (by-kind (insn n) (start n .args .slot .0) WideLoad (kind-is n WideLoad (c .before .enum-told2 .given .1)))
 
 enum-told-3 : tie.Need-enum-told-3
 enum-told-3 c = search needs
@@ -81,8 +81,8 @@ ahead-requires-3 c κs = search needs
 returns-3 : tie.Need-returns-3
 returns-3 c =
     let n = c .before .before .before .before in
-    went (sum-by (start n .args .slot) (record { sfits = c .ahead3 .ok }) (c .ahead3 .ensures) (record { sfits = c .before .jump .ok }) (c .before .jump .ensures))
-    ∙ sym (by-kind (insn n) (start n .args .slot) JumpByOffset (kind-is n JumpByOffset (c .before .before .enum-told3 .given .1)))
+    went (sum-by (start n .args .slot .0) (record { sfits = c .ahead3 .ok }) (c .ahead3 .ensures) (record { sfits = c .before .jump .ok }) (c .before .jump .ensures))
+    ∙ sym (by-kind (insn n) (start n .args .slot .0) JumpByOffset (kind-is n JumpByOffset (c .before .before .enum-told3 .given .1)))
 
 enum-told-4 : tie.Need-enum-told-4
 enum-told-4 c = search needs
@@ -96,8 +96,8 @@ ahead-requires-4 c κs = search needs
 returns-4 : tie.Need-returns-4
 returns-4 c =
     let n = c .before .before .before .before in
-    went (sum-by (start n .args .slot) (record { sfits = c .ahead4 .ok }) (c .ahead4 .ensures) (record { sfits = c .before .immediate .ok }) (c .before .immediate .ensures))
-    ∙ sym (by-kind (insn n) (start n .args .slot) JumpByImmediate (kind-is n JumpByImmediate (c .before .before .enum-told4 .given .1)))
+    went (sum-by (start n .args .slot .0) (record { sfits = c .ahead4 .ok }) (c .ahead4 .ensures) (record { sfits = c .before .immediate .ok }) (c .before .immediate .ensures))
+    ∙ sym (by-kind (insn n) (start n .args .slot .0) JumpByImmediate (kind-is n JumpByImmediate (c .before .before .enum-told4 .given .1)))
 
 enum-told-5 : tie.Need-enum-told-5
 enum-told-5 c = search needs
@@ -115,9 +115,9 @@ returns-5 : tie.Need-returns-5
 returns-5 c =
     let n = c .before .before .before .before .before in
     chosen
-    (sum-by (start n .args .slot) (record { sfits = c .before .ahead5 .ok }) (c .before .ahead5 .ensures) (record { sfits = c .before .before .jump2 .ok }) (c .before .before .jump2 .ensures))
+    (sum-by (start n .args .slot .0) (record { sfits = c .before .ahead5 .ok }) (c .before .ahead5 .ensures) (record { sfits = c .before .before .jump2 .ok }) (c .before .before .jump2 .ensures))
     (sum (record { sfits = c .ahead6 .ok }) (c .ahead6 .ensures))
-    ∙ sym (by-kind (insn n) (start n .args .slot) Conditional (kind-is n Conditional (c .before .before .before .enum-told5 .given .1)))
+    ∙ sym (by-kind (insn n) (start n .args .slot .0) Conditional (kind-is n Conditional (c .before .before .before .enum-told5 .given .1)))
 
 enum-told-6 : tie.Need-enum-told-6
 enum-told-6 c = search needs
@@ -133,7 +133,7 @@ returns-6 c =
     let t = c .before .before in
     let n = t .before .before .before in
     went (sum (record { sfits = c .ahead7 .ok }) (c .ahead7 .ensures))
-    ∙ sym (calls-not (insn n) (start n .args .slot) (kind-is n CallByte (t .before .enum-told6 .given .1))
+    ∙ sym (calls-not (insn n) (start n .args .slot .0) (kind-is n CallByte (t .before .enum-told6 .given .1))
     (sym (t .insn-is-call .ensures) ∙ not-true (t .insn-is-call .result) (c .before .if1 .taken)))
 
 immediate-requires-2 : tie.Need-immediate-requires-2
@@ -151,9 +151,9 @@ returns-7 c =
     let t = e .before in
     let n = t .before .before .before in
     entered
-    (sum-by (start n .args .slot) (record { sfits = c .before .ahead8 .ok }) (c .before .ahead8 .ensures) (record { sfits = c .before .before .immediate2 .ok }) (c .before .before .immediate2 .ensures))
+    (sum-by (start n .args .slot .0) (record { sfits = c .before .ahead8 .ok }) (c .before .ahead8 .ensures) (record { sfits = c .before .before .immediate2 .ok }) (c .before .before .immediate2 .ensures))
     (sum (record { sfits = c .ahead9 .ok }) (c .ahead9 .ensures))
-    ∙ sym (calls (insn n) (start n .args .slot) (kind-is n CallByte (t .before .enum-told6 .given .1))
+    ∙ sym (calls (insn n) (start n .args .slot .0) (kind-is n CallByte (t .before .enum-told6 .given .1))
     (sym (t .insn-is-call .ensures) ∙ not-false (t .insn-is-call .result) (e .if1 .left)))
 
 enum-told-7 : tie.Need-enum-told-7
@@ -162,7 +162,7 @@ enum-told-7 c = search needs
 returns-8 : tie.Need-returns-8
 returns-8 c =
     let n = c .before .before in
-    sym (by-kind (insn n) (start n .args .slot) Exit (kind-is n Exit (c .enum-told7 .given .1)))
+    sym (by-kind (insn n) (start n .args .slot .0) Exit (kind-is n Exit (c .enum-told7 .given .1)))
 
 enum-told-8 : tie.Need-enum-told-8
 enum-told-8 c = search needs
@@ -170,7 +170,7 @@ enum-told-8 c = search needs
 returns-9 : tie.Need-returns-9
 returns-9 c =
     let n = c .before .before in
-    sym (by-kind (insn n) (start n .args .slot) Unknown (kind-is n Unknown (c .enum-told8 .given .1)))
+    sym (by-kind (insn n) (start n .args .slot .0) Unknown (kind-is n Unknown (c .enum-told8 .given .1)))
 
 pub leads-at-spec : {M : Type 1} → statement M
 leads-at-spec =

@@ -9,13 +9,13 @@ func-info-record-requires : tie.Need-func-info-record-requires
 func-info-record-requires c κs = search needs
 
 returns : tie.Need-returns
-returns c = bytes-asked (c .before .before .before .args .func) true (search needs) _ _ _ (c .func-info-record .ensures)
+returns c = bytes-asked (c .before .before .before .args .func) true (search needs) _ _ _ (c .func-info-record .ensures .bytes)
 
 line-info-record-requires : tie.Need-line-info-record-requires
 line-info-record-requires c κs = search needs
 
 returns-2 : tie.Need-returns-2
-returns-2 c = bytes-asked (c .before .before .before .args .func) false (search needs) _ _ _ (c .line-info-record .ensures)
+returns-2 c = bytes-asked (c .before .before .before .args .func) false (search needs) _ _ _ (c .line-info-record .ensures .bytes)
 
 pub record-bytes-spec : {M : Type 1} → statement M
 record-bytes-spec =
