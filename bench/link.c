@@ -1,21 +1,11 @@
 /* How long a link takes, by slots, functions and relocations, with table 2 as bytes and as rows: the median of many runs, in
  * microseconds. */
 #define _POSIX_C_SOURCE 199309L
-#include <time.h>
-#include "barkruffle.h"
-#include "tables.h"
-
-#define RUNS 201
+#include "bench.h"
 
 static uint8_t image[BARKRUFFLE_IMAGE], funcs[BARKRUFFLE_IMAGE_FUNC_INFO], lines[BARKRUFFLE_IMAGE_LINE_INFO];
 static uint8_t places[BARKRUFFLE_PLACES];
 static struct barkruffle_symbol rows[1024];
-
-static int rising(const void *a, const void *b)
-{
-    double x = *(const double *)a, y = *(const double *)b;
-    return (x > y) - (x < y);
-}
 
 static uint32_t linked(struct object *o, int by_rows)
 {
@@ -32,58 +22,20 @@ static double microseconds(struct object *o, uint32_t slots, int by_rows)
 {
     static double t[RUNS];
     for (int k = 0; k < RUNS; k++) {
-        struct timespec a, b;
-        clock_gettime(CLOCK_MONOTONIC, &a);
+        struct timespec start = now();
         uint32_t r = linked(o, by_rows);
-        clock_gettime(CLOCK_MONOTONIC, &b);
+        t[k] = since(start);
         if (r != BARKRUFFLE_DONE || number_at(places, 0) != slots) {
             printf("link gave %u (%u, %u), not %u slots\n", r, number_at(places, 0), number_at(places, 1), slots);
             exit(1);
         }
-        t[k] = 1e6 * (double)(b.tv_sec - a.tv_sec) + 1e-3 * (double)(b.tv_nsec - a.tv_nsec);
     }
-    qsort(t, RUNS, sizeof *t, rising);
-    return t[RUNS / 2];
-}
-
-/* A root that calls each of the others in turn through a relocation, `functions` in all, `slots` in all. The other
- * relocations are of values, and copied: those come up to `relocations` in all. The symbol that they name is the
- * last of `symbols` rows. */
-static struct object *made(uint32_t functions, uint32_t slots, uint32_t relocations, uint32_t symbols)
-{
-    struct object *o = new_object();
-    uint32_t each = (slots - functions) / functions, first = slots - each * (functions - 1), relocated = 0;
-    code_section(&o->code, 1);
-    for (uint32_t k = 0; k + 2 < symbols; k++)
-        symbol(&o->symbols, k, 8, 0, 0);
-    symbol(&o->symbols, symbols - 2, 1, 0, 2);
-    symbol(&o->symbols, symbols - 1, 9, 0, 0);
-    for (uint32_t f = 0, at = 0; f < functions; f++) {
-        uint32_t n = f ? each : first;
-        function(&o->functions, 1, n, 8 * at, 8 * at, 0, 0);
-        for (uint32_t s = 0; s < n; s++) {
-            if (f == 0 && s + 1 < functions) {
-                call(&o->instructions, (int32_t)(first + each * s) - 1);
-                relocation(&o->relocations, 1, symbols - 2, 8 * s, 32);
-                relocated++;
-            } else if (relocated < relocations && s + 1 < n) {
-                plain(&o->instructions);
-                relocation(&o->relocations, 1, symbols - 1, 8 * (at + s), 64);
-                relocated++;
-            } else if (s + 1 == n) {
-                leave(&o->instructions);
-            } else {
-                plain(&o->instructions);
-            }
-        }
-        at += n;
-    }
-    return o;
+    return median(t);
 }
 
 static void run(uint32_t functions, uint32_t slots, uint32_t relocations, uint32_t symbols)
 {
-    struct object *o = made(functions, slots, relocations, symbols);
+    struct object *o = made((struct sizes){functions, slots, relocations, symbols, 0});
     memcpy(rows, o->symbols.bytes, o->symbols.len);
     printf("%6u slots %3u functions %5u relocations %5u symbols %10.1f %10.1f\n", slots, functions,
            (unsigned)(o->relocations.len / 24), symbols, microseconds(o, slots, 0), microseconds(o, slots, 1));

@@ -1,32 +1,9 @@
 /* How long the check of tables at their limits takes, and the map step over 64 functions and 1,024 relocations:
  * the median of many runs, in microseconds. Figures, not a test. */
 #define _POSIX_C_SOURCE 199309L
-#include <time.h>
-#include "barkruffle.h"
-#include "tables.h"
-
-#define RUNS 201
+#include "bench.h"
 
 static uint8_t image[8], funcs[8], lines[8], places[12];
-
-static int rising(const void *a, const void *b)
-{
-    double x = *(const double *)a, y = *(const double *)b;
-    return (x > y) - (x < y);
-}
-
-static double median(double *t)
-{
-    qsort(t, RUNS, sizeof *t, rising);
-    return t[RUNS / 2];
-}
-
-static double since(struct timespec a)
-{
-    struct timespec b;
-    clock_gettime(CLOCK_MONOTONIC, &b);
-    return 1e6 * (double)(b.tv_sec - a.tv_sec) + 1e-3 * (double)(b.tv_nsec - a.tv_nsec);
-}
 
 /* 64 functions of 128 slots in one section; every eighth slot is a wide load with a relocation to a map's symbol. */
 static struct object *largest(void)
@@ -59,9 +36,8 @@ int main(void)
 {
     static double t[RUNS];
     struct object *o = largest();
-    struct timespec a;
     for (int k = 0; k < RUNS; k++) {
-        clock_gettime(CLOCK_MONOTONIC, &a);
+        struct timespec a = now();
         uint32_t r = barkruffle_link(LENT(o->code), LENT(o->symbols), LENT(o->functions), LENT(o->relocations),
                                      LENT(o->instructions), LENT(o->func_info), LENT(o->line_info), 64, image,
                                      sizeof image, funcs, sizeof funcs, lines, sizeof lines, places, sizeof places);
@@ -76,7 +52,7 @@ int main(void)
     memcpy(before, o->instructions.bytes, o->instructions.len);
     for (int k = 0; k < RUNS; k++) {
         memcpy(o->instructions.bytes, before, o->instructions.len);
-        clock_gettime(CLOCK_MONOTONIC, &a);
+        struct timespec a = now();
         uint32_t r = barkruffle_relocate_maps(LENT(o->code), LENT(o->symbols), LENT(o->functions), LENT(o->relocations),
                                               LENT(o->maps), o->instructions.bytes, o->instructions.len, places, sizeof places);
         t[k] = since(a);

@@ -1,10 +1,10 @@
-/* A small sealing daemon: it builds the tables of an object, sets its maps, links its root, reads records from .BTF.ext data, and
- * prints what it was told. A real one takes the tables from an ELF file. */
+/* A small sealing daemon: it builds the tables of an object, sets its maps, links its root, reads records from .BTF.ext data,
+ * examines an image with its list of pieces, and prints what it was told. A real one takes the tables from an ELF file. */
 #include "barkruffle.h"
 #include "tables.h"
 
 static uint8_t image[BARKRUFFLE_IMAGE], funcs[BARKRUFFLE_IMAGE_FUNC_INFO], lines[BARKRUFFLE_IMAGE_LINE_INFO];
-static uint8_t places[BARKRUFFLE_PLACES];
+static uint8_t pieces[BARKRUFFLE_IMAGE_PIECES], places[BARKRUFFLE_PLACES];
 
 static void print_answer(const char *step, uint32_t number)
 {
@@ -40,6 +40,33 @@ static uint32_t seal(struct object *o, uint32_t root)
     for (uint32_t k = 0; k < number_at(places, 2); k++)
         printf("  line %u at slot %u\n", number_at(lines, 4 * k + 2), number_at(lines, 4 * k));
     return r;
+}
+
+static void examine(struct object *o, uint32_t root, uint32_t slots, uint32_t func_records, uint32_t line_records, size_t list)
+{
+    print_answer("examine", barkruffle_examine(LENT(o->code), LENT(o->symbols), LENT(o->functions), LENT(o->relocations),
+                                               LENT(o->instructions), LENT(o->func_info), LENT(o->line_info), root, image,
+                                               8 * slots, funcs, 8 * func_records, lines, 16 * line_records, pieces, list,
+                                               places, sizeof places));
+}
+
+/* Links with the list of pieces, and has the image examined: as it is, and with its call sent one slot further. */
+static void examine_linked(struct object *o, uint32_t root)
+{
+    uint32_t r = barkruffle_link_pieces(LENT(o->code), LENT(o->symbols), LENT(o->functions), LENT(o->relocations),
+                                        LENT(o->instructions), LENT(o->func_info), LENT(o->line_info), root, image,
+                                        sizeof image, funcs, sizeof funcs, lines, sizeof lines, pieces, sizeof pieces, places,
+                                        sizeof places);
+    print_answer("link with its list", r);
+    uint32_t slots = number_at(places, 0), func_records = number_at(places, 1), line_records = number_at(places, 2);
+    size_t list = 8; /* the header: up to the next start that is 0, or the buffer's end */
+    while (list + 8 <= sizeof pieces && number_at(pieces + list, 1) != 0)
+        list += 8;
+    for (size_t k = 0; k < list; k += 8)
+        printf("  function %u at slot %u\n", number_at(pieces + k, 0), number_at(pieces + k, 1));
+    examine(o, root, slots, func_records, line_records, list);
+    image[2 * 8 + 4]++;
+    examine(o, root, slots, func_records, line_records, list);
 }
 
 /* .BTF.ext has byte offsets where the tables have slots. */
@@ -98,6 +125,7 @@ int main(void)
     struct object *again = new_object();
     *again = *o; /* the map step rewrites the instructions, and is for once */
     seal(o, 1);
+    examine_linked(o, 1);
     printf("a root that is no function\n");
     *o = *again;
     seal(o, 2);

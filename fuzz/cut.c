@@ -19,6 +19,12 @@ static uint32_t take(struct source *s, int bytes)
     return v;
 }
 
+static uint64_t take_choices(struct source *s)
+{
+    uint64_t low = take(s, 4);
+    return low | (uint64_t)take(s, 4) << 32;
+}
+
 static uint32_t below(struct source *s, uint32_t n) { return take(s, n <= 256 ? 1 : 2) % n; }
 
 /* True for `of_256` of 256 bytes; false where none is left. */
@@ -59,6 +65,7 @@ static void cut_raw(struct input *in, struct source *s)
     for (int t = 1; t <= 8; t++)
         take_bytes(s, &in->table[t], lengths[t]);
     take_bytes(s, &in->data, data);
+    in->choices = take_choices(s);
 }
 
 /* ---- rows put right */
@@ -432,8 +439,9 @@ static void generate(struct input *in, struct source *s)
     in->maps_first = (int)below(s, 2);
     in->shared = rare(s, 16);
     in->places_len = rare(s, 128) ? below(s, 24) : BARKRUFFLE_PLACES;
-    struct source rest = {s->at + s->left - s->left / 4, s->left / 4}; /* the last quarter is the readers' */
+    struct source rest = {s->at + s->left - s->left / 4, s->left / 4}; /* the last quarter is the readers' and the choices */
     s->left -= rest.left;
+    in->choices = take_choices(&rest);
     make_info(in, &rest);
     uint32_t damages = rare(s, 70) ? 1 + below(s, 3) : 0;
     add_functions(&m);

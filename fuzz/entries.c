@@ -1,5 +1,5 @@
 /* The fuzz harness: every entry of include/barkruffle.h is called on each input, with guards around every buffer, and held
- * to document 01. First come the things that need no model: guards, what is only read, numbers, places, wiped outputs, the
+ * to document 01 and W1 of document 02. First come the things that need no model: guards, what is only read, numbers, places, wiped outputs, the
  * same again from other memory; then the answer and every byte against model.c.
  *
  * An entry is added as a function that tries it, and a line in `entries` with the numbers that the header gives it. */
@@ -8,14 +8,17 @@
 #include <string.h>
 #include "fuzz.h"
 
-enum { MAPS, LINK, LINK_ROWS, FIND, FUNC, LINE, FUNC_RECORD, LINE_RECORD, FUNC_NUMBER, LINE_NUMBER, ENTRIES };
+enum { MAPS, LINK, LINK_PIECES, EXAMINE, LINK_ROWS, FIND, FUNC, LINE, FUNC_RECORD, LINE_RECORD, FUNC_NUMBER, LINE_NUMBER, ENTRIES };
 
-#define NUMBERS 15
+#define NUMBERS 45
 #define BIT(n) ((uint64_t)1 << (n))
 #define LINK_NUMBERS (0xf | BIT(6) | BIT(8) | BIT(9) | BIT(10) | BIT(11) | BIT(12) | BIT(13))
+#define EXAMINE_NUMBERS ((LINK_NUMBERS & ~BIT(11)) | (BIT(45) - BIT(33)))
 
 static void try_maps(struct input *in);
 static void try_link(struct input *in);
+static void try_link_pieces(struct input *in);
+static void try_examine(struct input *in);
 static void try_link_rows(struct input *in);
 static void try_find(struct input *in);
 static void try_func_rows(struct input *in);
@@ -25,8 +28,8 @@ static void try_line_record(struct input *in);
 static void try_func_number(struct input *in);
 static void try_line_number(struct input *in);
 
-/* The map step is tried first: a link may take what it made of table 6. A record's part counts as 0, no part as 14; a symbol's
- * row counts as 0, no row as 3. */
+/* The map step is tried first: a link may take what it made of table 6. The examination comes after the link with its list,
+ * which it is shown. A record's part counts as 0, no part as 14; a symbol's row counts as 0, no row as 3. */
 static const struct entry {
     const char *name;
     uint64_t numbers;
@@ -34,6 +37,8 @@ static const struct entry {
 } entries[ENTRIES] = {
     [MAPS] = {"barkruffle_relocate_maps", 0xff, try_maps},
     [LINK] = {"barkruffle_link", LINK_NUMBERS, try_link},
+    [LINK_PIECES] = {"barkruffle_link_pieces", LINK_NUMBERS | BIT(32), try_link_pieces},
+    [EXAMINE] = {"barkruffle_examine", EXAMINE_NUMBERS, try_examine},
     [LINK_ROWS] = {"barkruffle_link_rows", LINK_NUMBERS, try_link_rows},
     [FIND] = {"barkruffle_find_symbol", BIT(0) | BIT(3), try_find},
     [FUNC] = {"barkruffle_func_info", BIT(0) | BIT(11) | BIT(14), try_func_rows},
@@ -51,7 +56,7 @@ static int now; /* the entry that is tried */
 #ifdef FUZZING_BUILD_MODE_UNSAFE_FOR_PRODUCTION
 __attribute__((section("__libfuzzer_extra_counters")))
 #endif
-static uint8_t seen[1 << 15];
+static uint8_t seen[1 << 17];
 
 static void finding(const char *what)
 {
@@ -89,7 +94,7 @@ static const struct round others[3] = {{AT_ODD, 0x96, 0}, {PACKED_UP, 0x69, 0}, 
 /* What a call left. */
 struct left {
     struct answer answer;
-    uint8_t places[24], out[3][MOST];
+    uint8_t places[24], out[4][MOST];
 };
 
 static struct left one, two, other;
@@ -99,7 +104,7 @@ static void open_round(const struct round *r) { lend_from(r->side, r->side == AT
 
 static void count(struct answer a)
 {
-    uint32_t h = (uint32_t)now * 16 + (a.number < 15 ? a.number : 15);
+    uint32_t h = (uint32_t)now * NUMBERS + a.number;
     reached[now][a.number]++;
     for (int i = 0; i < 2; i++)
         h = h * 12 + (a.places[i] < 10 ? a.places[i] : a.places[i] < 100 ? 10 : 11);
@@ -132,8 +137,8 @@ static void same_answer(const struct left *got, size_t places_len, const struct 
 
 static void as_model(const struct left *full, struct answer want)
 {
-    hold(full->answer.number == want.number, "another number than document 01's");
-    hold(memcmp(full->answer.places, want.places, sizeof want.places) == 0, "other places than document 01's");
+    hold(full->answer.number == want.number, "another number than the model's");
+    hold(memcmp(full->answer.places, want.places, sizeof want.places) == 0, "other places than the model's");
 }
 
 /* An input as the model takes it; good until the next call. */
@@ -167,7 +172,7 @@ static void plain_rules(const struct input *in, int last, int but, const struct 
         hold(a->places[1] < u32_at(in->table[3].at + 32 * a->places[0] + 4), "a refusal names no slot of its function");
     if (a->number == 11 || a->number == 13)
         hold(a->places[1] == 0 && (a->number == 11 || a->places[0] == 0), "places that are not named are not 0");
-    if (a->number)
+    if (a->number && a->number <= 38)
         hold(a->places[2] == 0, "a third place with a refusal");
 }
 
@@ -223,7 +228,7 @@ static void try_maps(struct input *in)
     if (two.answer.number == 0)
         only_rewritten(in, &two);
     as_model(&two, model_maps(tables_of(in), mapped));
-    hold(same(one.out[0], mapped, in->table[6].len), "other bytes than document 01's");
+    hold(same(one.out[0], mapped, in->table[6].len), "other bytes than the model's");
     count(two.answer);
     if (in->maps_first)
         memcpy(in->table[6].at, one.out[0], in->table[6].len);
@@ -235,44 +240,57 @@ static void try_maps(struct input *in)
 
 /* ---- the link */
 
-static const size_t row_out[3] = {8, 8, 16}, most_out[3] = {4096, 256, 4096};
+/* Lends tables 1 to 4 and 6 to 8, but the one that is lent as rows. */
+static void lend_tables(const struct input *in, const uint8_t **t, int as_rows, const struct barkruffle_symbol **rows)
+{
+    const struct bytes *b = in->table;
+    for (int i = 1; i <= 8; i++)
+        if (i == as_rows)
+            *rows = lend_rows(b[i].at, b[i].len);
+        else if (i != 5)
+            t[i] = i > 6 && in->shared ? t[6] : lend(b[i].at, b[i].len);
+}
 
-/* By barkruffle_link, or by rows: by barkruffle_link_rows. */
-static void link_by(int by_rows, const struct input *in, const size_t *out_len, struct round r, size_t places_len,
-                    struct left *got)
+enum by { BY_TABLES, BY_ROWS, BY_PIECES };
+
+/* By barkruffle_link, by barkruffle_link_rows, or by barkruffle_link_pieces, whose fourth output is the list. */
+static void link_by(enum by by, const struct input *in, const size_t *n, struct round r, size_t places_len, struct left *got)
 {
     const struct bytes *b = in->table;
     const uint8_t *t[9];
     const struct barkruffle_symbol *rows = NULL;
-    uint8_t *out[3];
+    const int outs = by == BY_PIECES ? 4 : 3;
+    uint8_t *out[4];
+    uint32_t number;
     r.places_len = places_len;
     open_round(&r);
-    for (int i = 1; i <= 8; i++)
-        if (i == 2 && by_rows)
-            rows = lend_rows(b[2].at, b[2].len);
-        else if (i != 5)
-            t[i] = i > 6 && in->shared ? t[6] : lend(b[i].at, b[i].len);
-    for (int i = 0; i < 3; i++)
-        out[i] = lend_filled(r.before, out_len[i]);
+    lend_tables(in, t, by == BY_ROWS ? 2 : 0, &rows);
+    for (int i = 0; i < outs; i++)
+        out[i] = lend_filled(r.before, n[i]);
     uint8_t *places = lend_filled(r.before, places_len);
-    uint32_t number =
-        by_rows ? barkruffle_link_rows(t[1], b[1].len, rows, b[2].len / sizeof *rows, t[3], b[3].len, t[4], b[4].len, t[6],
-                                       b[6].len, t[7], b[7].len, t[8], b[8].len, in->root, out[0], out_len[0], out[1],
-                                       out_len[1], out[2], out_len[2], places, places_len)
-                : barkruffle_link(t[1], b[1].len, t[2], b[2].len, t[3], b[3].len, t[4], b[4].len, t[6], b[6].len, t[7],
-                                  b[7].len, t[8], b[8].len, in->root, out[0], out_len[0], out[1], out_len[1], out[2],
-                                  out_len[2], places, places_len);
-    for (int i = 0; i < 3; i++)
-        if (out_len[i])
-            memcpy(got->out[i], out[i], out_len[i]);
+    if (by == BY_ROWS)
+        number = barkruffle_link_rows(t[1], b[1].len, rows, b[2].len / sizeof *rows, t[3], b[3].len, t[4], b[4].len, t[6],
+                                      b[6].len, t[7], b[7].len, t[8], b[8].len, in->root, out[0], n[0], out[1], n[1], out[2],
+                                      n[2], places, places_len);
+    else if (by == BY_PIECES)
+        number = barkruffle_link_pieces(t[1], b[1].len, t[2], b[2].len, t[3], b[3].len, t[4], b[4].len, t[6], b[6].len, t[7],
+                                        b[7].len, t[8], b[8].len, in->root, out[0], n[0], out[1], n[1], out[2], n[2], out[3],
+                                        n[3], places, places_len);
+    else
+        number = barkruffle_link(t[1], b[1].len, t[2], b[2].len, t[3], b[3].len, t[4], b[4].len, t[6], b[6].len, t[7],
+                                 b[7].len, t[8], b[8].len, in->root, out[0], n[0], out[1], n[1], out[2], n[2], places,
+                                 places_len);
+    for (int i = 0; i < outs; i++)
+        if (n[i])
+            memcpy(got->out[i], out[i], n[i]);
     close_round(&r, number, places, got);
-    for (int i = 0; i < 3 && number; i++)
-        hold(all_zero(got->out[i], out_len[i]), "a refused link leaves a byte");
+    for (int i = 0; i < outs && number; i++)
+        hold(all_zero(got->out[i], n[i]), "a refused link leaves a byte");
 }
 
 static void link_once(const struct input *in, const size_t *out_len, struct round r, size_t places_len, struct left *got)
 {
-    link_by(0, in, out_len, r, places_len, got);
+    link_by(BY_TABLES, in, out_len, r, places_len, got);
 }
 
 /* An accepted image: its counts fit, and zero follows. */
@@ -280,8 +298,8 @@ static void is_image(const size_t *out_len, const struct left *got)
 {
     for (int i = 0; i < 3; i++) {
         size_t rows = got->answer.places[i];
-        hold(rows <= most_out[i] && rows * row_out[i] <= out_len[i], "an image past its limits or its buffer");
-        hold(all_zero(got->out[i] + rows * row_out[i], out_len[i] - rows * row_out[i]), "not zero after the image");
+        hold(rows <= most_shown[i] && rows * row_shown[i] <= out_len[i], "an image past its limits or its buffer");
+        hold(all_zero(got->out[i] + rows * row_shown[i], out_len[i] - rows * row_shown[i]), "not zero after the image");
     }
 }
 
@@ -300,7 +318,7 @@ static void try_larger(const struct input *in, const struct left *full)
     hold(memcmp(other.answer.places, full->answer.places, sizeof full->answer.places) == 0, "larger outputs give other places");
     if (full->answer.number == 0)
         for (int i = 0; i < 3; i++)
-            hold(same(other.out[i], full->out[i], row_out[i] * full->answer.places[i]), "larger outputs get another image");
+            hold(same(other.out[i], full->out[i], row_shown[i] * full->answer.places[i]), "larger outputs get another image");
 }
 
 /* Outputs that the image fills exactly are enough, and a byte less in any of them is not. */
@@ -308,7 +326,7 @@ static void try_exact(const struct input *in, const struct left *full)
 {
     size_t exact[3];
     for (int i = 0; i < 3; i++)
-        exact[i] = row_out[i] * full->answer.places[i];
+        exact[i] = row_shown[i] * full->answer.places[i];
     for (int r = 0; r < 3; r++) {
         link_once(in, exact, others[r], BARKRUFFLE_PLACES, &other);
         hold(other.answer.number == 0, "an image is refused outputs that it fills exactly");
@@ -331,7 +349,7 @@ static void link_as_model(const struct input *in, const struct left *got)
     uint8_t *const outs[3] = {want[0], want[1], want[2]};
     as_model(got, model_link(tables_of(in), in->root, in->out_len, outs));
     for (int i = 0; i < 3; i++)
-        hold(same(got->out[i], want[i], in->out_len[i]), "other bytes than document 01's");
+        hold(same(got->out[i], want[i], in->out_len[i]), "other bytes than the model's");
 }
 
 static void try_link(struct input *in)
@@ -354,17 +372,7 @@ static void try_link(struct input *in)
     count(two.answer);
 }
 
-/* ---- table 2 lent as rows */
-
-/* A slice of rows has no partial row: one that table 2 ends with is left away. */
-static void whole_rows(struct input *in) { in->table[2].len -= in->table[2].len % sizeof(struct barkruffle_symbol); }
-
-static void rows_once(const struct input *in, struct round r, size_t places_len, struct left *got)
-{
-    link_by(1, in, in->out_len, r, places_len, got);
-}
-
-/* The same as barkruffle_link over the rows' bytes. */
+/* The same as barkruffle_link over the tables' bytes. */
 static void as_link(const struct input *in, const struct left *got)
 {
     link_once(in, in->out_len, again, BARKRUFFLE_PLACES, &other);
@@ -372,6 +380,224 @@ static void as_link(const struct input *in, const struct left *got)
     hold(memcmp(got->answer.places, other.answer.places, sizeof other.answer.places) == 0, "other places than barkruffle_link's");
     for (int i = 0; i < 3; i++)
         hold(same(got->out[i], other.out[i], in->out_len[i]), "other bytes than barkruffle_link's");
+}
+
+/* ---- the link with its list */
+
+static struct shown shown; /* what the examination is shown; first the link's own image, where it made one */
+static int is_linked;
+
+/* The list as the header says to find its end. It starts with the root at 0, and each piece where the one before ends. */
+static size_t list_len(const struct input *in, const uint8_t *pieces, size_t len, const struct left *got)
+{
+    size_t n = 8, at = 0;
+    while (n + 8 <= len && memcmp(pieces + n + 4, "\0\0\0\0", 4) != 0)
+        n += 8;
+    hold(u32_at(pieces) == in->root, "the list does not start with the root");
+    for (size_t k = 0; k < n; k += 8) {
+        hold(u32_at(pieces + k) < in->table[3].len / 32, "the list names no function");
+        hold(u32_at(pieces + k + 4) == at, "a piece does not start where the one before ends");
+        at += u32_at(in->table[3].at + 32 * u32_at(pieces + k) + 4);
+    }
+    hold(at == got->answer.places[0], "the pieces do not end with the image");
+    hold(all_zero(pieces + n, len - n), "not zero after the list");
+    return n;
+}
+
+static void keep_shown(const struct input *in, const size_t *n, const struct left *got)
+{
+    is_linked = got->answer.number == 0;
+    if (!is_linked)
+        return;
+    for (int i = 0; i < 3; i++)
+        shown.part[i].len = row_shown[i] * got->answer.places[i];
+    shown.part[3].len = list_len(in, got->out[3], n[3], got);
+    for (int i = 0; i < 4; i++)
+        memcpy(shown.part[i].at, got->out[i], shown.part[i].len);
+}
+
+/* A list of the length that the header says is enough, and a byte less is 32, told before all else. */
+static void try_list_room(const struct input *in, const size_t *n, const struct left *full)
+{
+    size_t exact[4] = {n[0], n[1], n[2], BARKRUFFLE_PIECES(in->table[3].len)};
+    link_by(BY_PIECES, in, exact, others[0], BARKRUFFLE_PLACES, &other);
+    hold(other.answer.number != 32, "a list is refused the bytes that the header says are enough");
+    hold((full->answer.number == 32) == (n[3] < exact[3]), "32 is not told exactly where the list has no room");
+    hold(full->answer.number == 32 || other.answer.number == full->answer.number, "a longer list gives another number");
+    exact[3]--;
+    link_by(BY_PIECES, in, exact, others[1], BARKRUFFLE_PLACES, &other);
+    hold(other.answer.number == 32 && all_zero(other.places, BARKRUFFLE_PLACES), "a list that is too short is not 32");
+}
+
+static void pieces_as_model(const struct input *in, const size_t *n, const struct left *got)
+{
+    static uint8_t want[4][MOST];
+    uint8_t *const outs[4] = {want[0], want[1], want[2], want[3]};
+    as_model(got, model_link_pieces(tables_of(in), in->root, n, outs));
+    for (int i = 0; i < 4; i++)
+        hold(same(got->out[i], want[i], n[i]), i < 3 ? "other bytes than the model's" : "another list than the model's");
+}
+
+static void try_link_pieces(struct input *in)
+{
+    size_t need = BARKRUFFLE_PIECES(in->table[3].len), n[4] = {in->out_len[0], in->out_len[1], in->out_len[2], need};
+    uint64_t choices = in->choices;
+    if (choose(&choices, 16) == 0)
+        n[3] = choose(&choices, (uint32_t)need);
+    else
+        n[3] += choose(&choices, 40);
+    link_by(BY_PIECES, in, n, first, in->places_len, &one);
+    link_by(BY_PIECES, in, n, again, BARKRUFFLE_PLACES, &two);
+    same_answer(&one, in->places_len, &two);
+    for (int i = 0; i < 4; i++)
+        hold(same(one.out[i], two.out[i], n[i]), "called twice, other bytes");
+    if (two.answer.number != 32) {
+        plain_rules(in, 8, 5, &two.answer);
+        as_link(in, &two);
+    }
+    try_list_room(in, n, &two);
+    keep_shown(in, n, &two);
+    pieces_as_model(in, n, &two);
+    count(two.answer);
+}
+
+/* ---- the examination */
+
+enum { OWN_YES, LAID_YES, TWICE_YES, UNCALLED_YES, TO_FIRST_YES, METS };
+static unsigned long met[METS], of_what[3][4]; /* 33, 34 and 44, of the image, its records and the list */
+static const char *const met_names[METS] = {"the link's own", "laid in another order", "with a function twice",
+                                            "with a piece that nobody calls", "with a call of the first piece"};
+
+static void examine_once(const struct input *in, const struct shown *s, struct round r, size_t places_len, struct left *got)
+{
+    const struct bytes *b = in->table, *p = s->part;
+    const uint8_t *t[9], *q[4];
+    r.places_len = places_len;
+    open_round(&r);
+    lend_tables(in, t, 0, NULL);
+    for (int i = 0; i < 4; i++)
+        q[i] = lend(p[i].at, p[i].len);
+    uint8_t *places = lend_filled(r.before, places_len);
+    uint32_t number = barkruffle_examine(t[1], b[1].len, t[2], b[2].len, t[3], b[3].len, t[4], b[4].len, t[6], b[6].len, t[7],
+                                         b[7].len, t[8], b[8].len, in->root, q[0], p[0].len, q[1], p[1].len, q[2], p[2].len,
+                                         q[3], p[3].len, places, places_len);
+    close_round(&r, number, places, got);
+}
+
+/* What the header says of the places without looking into a row. */
+static void plain_places(const struct shown *s, const struct answer *a)
+{
+    const uint32_t *at = a->places;
+    if (a->number == 0)
+        hold(at[0] == s->part[3].len / 8 && at[1] == 0 && at[2] == 0, "a yes does not tell the pieces");
+    if (a->number == 33 || a->number == 34)
+        hold(at[0] >= 6 && at[0] <= 9, "a size of what is not shown");
+    if (a->number == 35)
+        hold(at[0] == 0 && at[1] == 0, "places that are not named are not 0");
+    if (a->number >= 36 && a->number <= 43 && a->number != 38)
+        hold(at[0] < s->part[3].len / 8, "a no names no piece");
+    if (a->number == 39)
+        hold(at[2] < s->part[0].len / 8, "a no names no slot of the image");
+    if (a->number == 44)
+        hold(at[0] == 7 ? at[1] < s->part[1].len / 8 : at[0] == 8 && at[1] < s->part[2].len / 16, "a no names no record over");
+}
+
+static void examine_as_model(const struct input *in, const struct shown *s)
+{
+    const struct run parts[4] = {{s->part[0].at, s->part[0].len}, {s->part[1].at, s->part[1].len},
+                                 {s->part[2].at, s->part[2].len}, {s->part[3].at, s->part[3].len}};
+    plain_rules(in, 8, 5, &two.answer);
+    plain_places(s, &two.answer);
+    as_model(&two, model_examine(tables_of(in), in->root, parts));
+    count(two.answer);
+    if (two.answer.number == 33 || two.answer.number == 34 || two.answer.number == 44)
+        of_what[two.answer.number == 44 ? 2 : two.answer.number - 33][two.answer.places[0] - 6]++;
+}
+
+/* From both sides, some from everywhere. The answer is left in `two`. What is said where it is a no that must be a yes. */
+static void examine(const struct input *in, const struct shown *s, int is_yes, const char *no)
+{
+    examine_once(in, s, first, in->places_len, &one);
+    examine_once(in, s, again, BARKRUFFLE_PLACES, &two);
+    same_answer(&one, in->places_len, &two);
+    for (int r = 0; r < 3 && in->choices % 4 == 0; r++) {
+        examine_once(in, s, others[r], BARKRUFFLE_PLACES, &other);
+        same_answer(&other, BARKRUFFLE_PLACES, &two);
+    }
+    hold(!is_yes || two.answer.number == 0, no);
+    examine_as_model(in, s);
+}
+
+/* From one place. */
+static void examine_changed(const struct input *in, const struct shown *s, uint64_t *choices)
+{
+    examine_once(in, s, choose(choices, 2) ? first : again, BARKRUFFLE_PLACES, &two);
+    examine_as_model(in, s);
+}
+
+/* With one thing changed, then two; and a bit of a table changed under the image. */
+static void change(struct input *in, struct shown *s, uint64_t *choices)
+{
+    for (int times = 0; times < 2; times++) {
+        change_shown(s, choices);
+        examine_changed(in, s, choices);
+    }
+    struct bytes *t = &in->table[choose(choices, 2) ? 6 : 1 + choose(choices, 8)];
+    if (t->len == 0 || in->shared || t == &in->table[5])
+        return;
+    uint8_t *byte = t->at + choose(choices, (uint32_t)t->len), kept = *byte;
+    *byte ^= (uint8_t)(1 << choose(choices, 8));
+    examine_changed(in, s, choices);
+    *byte = kept;
+}
+
+static void count_yes(int laid)
+{
+    met[LAID_YES]++;
+    met[TWICE_YES] += (laid & LAID_TWICE) != 0;
+    met[UNCALLED_YES] += (laid & LAID_UNCALLED) != 0;
+    met[TO_FIRST_YES] += (laid & LAID_TO_FIRST) != 0;
+}
+
+/* Tables 6 to 8 for an image, and the readers' data for a list. */
+static void show_tables(const struct input *in)
+{
+    for (int i = 0; i < 4; i++) {
+        const struct bytes *b = i < 3 ? &in->table[6 + i] : &in->data;
+        memcpy(shown.part[i].at, b->at, b->len);
+        shown.part[i].len = b->len;
+    }
+}
+
+/* What was linked, if it was; then an image of another order, or any bytes; and what becomes of each when it is changed. */
+static void try_examine(struct input *in)
+{
+    uint64_t choices = in->choices + 1;
+    if (is_linked) {
+        examine(in, &shown, 1, "an image that was linked is not accepted with its list");
+        met[OWN_YES]++;
+        change(in, &shown, &choices);
+    }
+    int laid = 0;
+    if (model_check_link(tables_of(in), in->root).number || in->choices % 16 == 0)
+        show_tables(in);
+    else
+        laid = lay_image(tables_of(in), in->root, &choices, &shown);
+    examine(in, &shown, laid & LAID_WHOLE, "an image of another order is not accepted");
+    if (laid & LAID_WHOLE)
+        count_yes(laid);
+    if (laid)
+        change(in, &shown, &choices);
+}
+
+/* ---- table 2 lent as rows */
+
+/* A slice of rows has no partial row: one that table 2 ends with is left away. */
+static void whole_rows(struct input *in) { in->table[2].len -= in->table[2].len % sizeof(struct barkruffle_symbol); }
+
+static void rows_once(const struct input *in, struct round r, size_t places_len, struct left *got)
+{
+    link_by(BY_ROWS, in, in->out_len, r, places_len, got);
 }
 
 static void try_link_rows(struct input *in)
@@ -414,7 +640,7 @@ static void try_index(const struct input *in, uint32_t index)
     for (int r = 0; r < 3; r++)
         hold(row_once(in, &others[r], index) == row, "called elsewhere, another row");
     hold(row == BARKRUFFLE_NONE || row < in->table[2].len / sizeof(struct barkruffle_symbol), "a row that is not there");
-    hold(row == model_find(tables_of(in), index), "another row than document 01's");
+    hold(row == model_find(tables_of(in), index), "another row than the model's");
     count((struct answer){row == BARKRUFFLE_NONE ? 3 : 0, {0, 0, 0}});
 }
 
@@ -470,7 +696,7 @@ static void try_rows(reader *rows, size_t row, const struct input *in)
         hold(used <= in->rows_len && all_zero(two.out[0] + used, in->rows_len - used), "not zero after the rows");
     }
     as_model(&two, model_read(row, in->size, in->count, data_of(in), want, in->rows_len));
-    hold(same(two.out[0], want, in->rows_len), "other bytes than document 01's");
+    hold(same(two.out[0], want, in->rows_len), "other bytes than the model's");
     count(two.answer);
 }
 
@@ -494,7 +720,7 @@ static void try_record(finder *record, size_t row, const struct input *in)
     if (want.number)
         hold(p.at == 0 && p.len == 0, "a part that is not empty with a refusal");
     else
-        hold(p.len == in->size && p.at == (uint64_t)in->size * in->k, "another part than document 01's");
+        hold(p.len == in->size && p.at == (uint64_t)in->size * in->k, "another part than the model's");
     count(want);
 }
 
@@ -543,6 +769,25 @@ int LLVMFuzzerTestOneInput(const uint8_t *data, size_t len)
     return 0;
 }
 
+/* Which images had a yes, and which parts had a size or a record over. */
+static int report_images(void)
+{
+    int missing = 0;
+    for (int i = 0; i < METS; i++) {
+        fprintf(stderr, i ? ", %s: %lu" : "fuzz: images accepted, %s: %lu", met_names[i], met[i]);
+        missing += met[i] == 0;
+    }
+    for (int i = 0; i < 3; i++) {
+        fprintf(stderr, i ? ", %d of" : "\nfuzz: refused with %d of", i == 2 ? 44 : 33 + i);
+        for (int part = i == 2; part < (i == 2 ? 3 : 4); part++) {
+            fprintf(stderr, " %d:%lu", 6 + part, of_what[i][part]);
+            missing += of_what[i][part] == 0;
+        }
+    }
+    fprintf(stderr, "\n");
+    return missing;
+}
+
 int report(void)
 {
     int missing = 0;
@@ -557,8 +802,9 @@ int report(void)
             }
         fprintf(stderr, "\n");
     }
+    missing += report_images();
     if (missing)
-        fprintf(stderr, "fuzz: %d numbers of entries were never reached\n", missing);
+        fprintf(stderr, "fuzz: %d numbers of entries, or images, were never reached\n", missing);
     else
         fprintf(stderr, "fuzz: every number of every entry was reached\n");
     return missing != 0;

@@ -1,5 +1,5 @@
-/* What the files of the fuzz harness share: an input cut into buffers, buffers lent between guards, and the runs. What
- * document 01 answers to an input is model.h. */
+/* What the files of the fuzz harness share: an input cut into buffers, buffers lent between guards, images, and the
+ * runs. What the documents answer to an input is model.h. */
 #ifndef BARKRUFFLE_FUZZ_H
 #define BARKRUFFLE_FUZZ_H
 
@@ -27,11 +27,25 @@ struct input {
     size_t places_len;
     int maps_first; /* link what the map step made of table 6 */
     int shared;     /* in the link, tables 7 and 8 are lent as the start of table 6 */
+    uint64_t choices; /* of images and lists: what choose() starts from */
+};
+
+/* What an examiner is shown: the image, its function records, its line records and the list. */
+struct shown {
+    struct bytes part[4];
 };
 
 /* cut.c: the first byte chooses raw bytes, raw bytes repaired, or a generator. */
 enum { CUT_RAW, CUT_REPAIRED, CUT_GENERATED, CUTS };
 int cut(struct input *in, const uint8_t *data, size_t len);
+
+/* images.c: images that no link of the library made, and changes of one thing in what is shown. Laid is whether there is an
+ * image; whole, whether a link refuses nothing of its source; and whether a function stands in it twice, a piece that nobody
+ * calls, or a call of the first piece. */
+enum { LAID = 1, LAID_WHOLE = 2, LAID_TWICE = 4, LAID_UNCALLED = 8, LAID_TO_FIRST = 16 };
+int lay_image(const struct run *table, uint32_t root, uint64_t *choices, struct shown *s);
+void change_shown(struct shown *s, uint64_t *choices);
+uint32_t choose(uint64_t *choices, uint32_t n);
 
 /* lend.c: each buffer of a call lies at an unmapped page, with its end or with its start, or at an odd address; guard
  * bytes fill what is mapped around it, and what is only read is lent through a mapping that cannot be written. Or all lie

@@ -1,5 +1,5 @@
 /* Lengths past 32 bits, once in each run: memory that is all zero and takes no room, 2^32 bytes and some more, lent as each
- * table in turn and as the readers' data; and 2^32 rows. A length, a count or a product cut to 32 bits would be taken for a
+ * table in turn, as each part of what an examination is shown and as the readers' data; and 2^32 rows. A length, a count or a product cut to 32 bits would be taken for a
  * small one. */
 #define _GNU_SOURCE
 #include <stdio.h>
@@ -46,6 +46,42 @@ static void long_tables(const uint8_t *zeros)
                                            n[8], 0, out[0], 16, out[1], 16, out[2], 16, places, sizeof places), places, 1, t) &&
                  u64_at(out[0]) == 0 && memcmp(out[0], out[0] + 1, sizeof out - 1) == 0,
                  "barkruffle_link", "a length past 32 bits is not 1");
+    }
+}
+
+/* The same of the link with its list, but table 3 alone: its list has no room for that many rows. */
+static void long_tables_listed(const uint8_t *zeros)
+{
+    uint8_t places[BARKRUFFLE_PLACES], out[4][16];
+    for (uint32_t t = 1; t <= 8; t++) {
+        size_t n[9] = {0};
+        n[t] = ((size_t)1 << 32) + (t == 3 ? 0 : row_size[t]);
+        memset(out, 0x5a, sizeof out);
+        if (t != 5)
+            hold(is_answer(barkruffle_link_pieces(zeros, n[1], zeros, n[2], zeros, n[3], zeros, n[4], zeros, n[6], zeros, n[7],
+                                                  zeros, n[8], 0, out[0], 16, out[1], 16, out[2], 16, out[3], 16, places,
+                                                  sizeof places), places, t == 3 ? 32 : 1, t == 3 ? 0 : t) &&
+                 u64_at(out[0]) == 0 && memcmp(out[0], out[0] + 1, sizeof out - 1) == 0, "barkruffle_link_pieces",
+                 t == 3 ? "a table 3 past 32 bits is not 32" : "a length past 32 bits is not 1");
+        if (t != 5)
+            hold(is_answer(barkruffle_examine(zeros, n[1], zeros, n[2], zeros, n[3], zeros, n[4], zeros, n[6], zeros, n[7],
+                                              zeros, n[8], 0, zeros, 8, zeros, 0, zeros, 0, zeros, 8, places, sizeof places),
+                           places, 1, t), "barkruffle_examine", "a length past 32 bits is not 1");
+    }
+}
+
+/* One function of one slot, and an image of it: a yes; then each part of what is shown past 32 bits in turn. By the low 32
+ * bits of its length it is what it was. */
+static void long_shown(const uint8_t *zeros)
+{
+    static const uint8_t function[32] = {[4] = 1};
+    uint8_t places[BARKRUFFLE_PLACES];
+    for (uint32_t i = 0; i <= 4; i++) {
+        size_t n[5] = {8, 0, 0, 8, 0};
+        n[i] += i < 4 ? (size_t)1 << 32 : 0;
+        hold(is_answer(barkruffle_examine(NULL, 0, NULL, 0, function, 32, NULL, 0, zeros, 8, NULL, 0, NULL, 0, 0, zeros, n[0],
+                                          zeros, n[1], zeros, n[2], zeros, n[3], places, sizeof places), places, i < 4 ? 33 : 0,
+                       i < 4 ? 6 + i : 1), "barkruffle_examine", "a length past 32 bits is not 33");
     }
 }
 
@@ -103,6 +139,8 @@ void try_long(void)
     uint8_t *zeros = map_zeros(LONG), *rows = map_zeros(many);
     if (zeros) {
         long_tables(zeros);
+        long_tables_listed(zeros);
+        long_shown(zeros);
         long_data(zeros);
         long_rows(zeros, LONG_ROWS, "rows of more bytes than 32 bits tell");
         munmap(zeros, LONG);

@@ -1,11 +1,14 @@
-/* Document 01 as a literal program: what each entry answers, and what its outputs then hold. It is slow on purpose: every
- * search starts at the table's first row. The fuzz harness and the comparison with the Rust files (compare/) share it. Being
- * compiled with the harness, it also shows the fuzzer which rules an input reaches, which the archive does not. */
+/* Document 01, and W1 of document 02, as a literal program: what each entry answers, and what its outputs then hold. It is
+ * slow on purpose: every search starts at the table's first row. The fuzz harness and the comparison with the Rust files
+ * (compare/) share it. Being compiled with the harness, it also shows the fuzzer which rules an input reaches, which the
+ * archive does not. */
 #include <string.h>
 #include "model.h"
 
 const size_t row_size[9] = {0, 4, 24, 32, 24, 16, 8, 8, 16};
 const size_t most_rows[9] = {0, 64, 1024, 64, 1024, 64, 8192, 256, 4096};
+const size_t row_shown[4] = {8, 8, 16, 8};
+const size_t most_shown[4] = {4096, 256, 4096, 4096}; /* each piece has a slot */
 
 enum { OTHER, TEXT, SECTION };
 
@@ -28,11 +31,13 @@ static void put_u32(uint8_t *p, int64_t v)
         p[i] = (uint8_t)((uint64_t)v >> (8 * i));
 }
 
-static struct answer answer(uint32_t number, size_t a, size_t b)
+static struct answer answer_of(uint32_t number, size_t a, size_t b, size_t c)
 {
-    struct answer r = {number, {(uint32_t)a, (uint32_t)b, 0}};
+    struct answer r = {number, {(uint32_t)a, (uint32_t)b, (uint32_t)c}};
     return r;
 }
+
+static struct answer answer(uint32_t number, size_t a, size_t b) { return answer_of(number, a, b, 0); }
 
 static size_t rows_of(const struct run *table, int t) { return table[t].len / row_size[t]; }
 static const uint8_t *row_of(const struct run *table, int t, size_t k) { return table[t].at + k * row_size[t]; }
@@ -272,6 +277,10 @@ struct linker {
     size_t used[3]; /* slots, function records, line records */
     int is_placed[64];
     size_t start[64];
+    size_t pieces; /* in order of placing: the root, each function once, and the root's copy */
+    struct piece {
+        size_t row, start;
+    } piece[65];
     struct answer refusal;
 };
 
@@ -283,15 +292,16 @@ static int refuse(struct linker *l, uint32_t number, size_t a, size_t b)
 
 static int has_room(const struct linker *l, const struct function *f)
 {
-    const size_t more[3] = {f->slots, f->funcs, f->lines}, size[3] = {8, 8, 16}, most[3] = {4096, 256, 4096};
+    const size_t more[3] = {f->slots, f->funcs, f->lines};
     for (int i = 0; i < 3; i++)
-        if (l->used[i] + more[i] > most[i] || size[i] * (l->used[i] + more[i]) > l->out_len[i])
+        if (l->used[i] + more[i] > most_shown[i] || row_shown[i] * (l->used[i] + more[i]) > l->out_len[i])
             return 0;
     return 1;
 }
 
-static void copy_in(struct linker *l, const struct function *f)
+static void copy_in(struct linker *l, size_t row, const struct function *f)
 {
+    l->piece[l->pieces++] = (struct piece){row, l->used[0]};
     memcpy(l->out[0] + 8 * l->used[0], row_of(l->table, 6, f->slot), 8 * (size_t)f->slots);
     if (f->funcs)
         memcpy(l->out[1] + 8 * l->used[1], row_of(l->table, 7, f->func), 8 * (size_t)f->funcs);
@@ -304,32 +314,43 @@ static void copy_in(struct linker *l, const struct function *f)
 
 static int visit(struct linker *l, size_t row, size_t start);
 
+/* The slots between line record k and the function's first. */
+static int64_t line_difference(const struct run *table, const struct function *f, size_t k)
+{
+    return (int64_t)u32_at(row_of(table, 8, f->line + k)) - (int64_t)u32_at(row_of(table, 8, f->line));
+}
+
+/* The first line record that 12 refuses, or their count. */
+static size_t stray_line(const struct run *table, const struct function *f)
+{
+    size_t k = 0;
+    while (k < f->lines && line_difference(table, f, k) >= 0 && line_difference(table, f, k) < (int64_t)f->slots)
+        k++;
+    return k;
+}
+
 static int append(struct linker *l, size_t row)
 {
     struct function f = function_at(l->table, row);
     size_t start = l->used[0], func = l->used[1], line = l->used[2];
     if (!has_room(l, &f))
         return refuse(l, 11, row, 0);
-    int64_t first = f.lines ? (int64_t)u32_at(row_of(l->table, 8, f.line)) : 0;
-    for (size_t k = 0; k < f.lines; k++) {
-        int64_t difference = (int64_t)u32_at(row_of(l->table, 8, f.line + k)) - first;
-        if (difference < 0 || difference >= (int64_t)f.slots)
-            return refuse(l, 12, row, k);
-    }
-    copy_in(l, &f);
+    if (stray_line(l->table, &f) < f.lines)
+        return refuse(l, 12, row, stray_line(l->table, &f));
+    copy_in(l, row, &f);
     for (size_t k = 0; k < f.funcs; k++)
         put_u32(l->out[1] + 8 * (func + k), (int64_t)start);
     for (size_t k = 0; k < f.lines; k++)
-        put_u32(l->out[2] + 16 * (line + k), (int64_t)start + (int64_t)u32_at(row_of(l->table, 8, f.line + k)) - first);
+        put_u32(l->out[2] + 16 * (line + k), (int64_t)start + line_difference(l->table, &f, k));
     l->is_placed[row] = 1;
     l->start[row] = start;
     return visit(l, row, start);
 }
 
-static const uint8_t *relocation_of(const struct linker *l, const struct function *f, size_t k)
+static const uint8_t *relocation_of(const struct run *table, const struct function *f, size_t k)
 {
-    for (size_t i = 0; i < rows_of(l->table, 4); i++) {
-        const uint8_t *r = row_of(l->table, 4, i);
+    for (size_t i = 0; i < rows_of(table, 4); i++) {
+        const uint8_t *r = row_of(table, 4, i);
         if (u32_at(r) == f->section && u64_at(r + 8) == f->offset + 8 * k)
             return r;
     }
@@ -343,9 +364,9 @@ struct target {
 };
 
 /* What a slot names: 0 with a target or with none, or the refusal. */
-static uint32_t target_of(const struct linker *l, const struct function *f, size_t k, struct target *t)
+static uint32_t target_of(const struct run *table, const struct function *f, size_t k, struct target *t)
 {
-    const uint8_t *slots = row_of(l->table, 6, f->slot), *slot = slots + 8 * k, *r = relocation_of(l, f, k);
+    const uint8_t *slots = row_of(table, 6, f->slot), *slot = slots + 8 * k, *r = relocation_of(table, f, k);
     t->is_code = 0;
     if (!r) {
         t->is_code = is_call(slot);
@@ -353,12 +374,12 @@ static uint32_t target_of(const struct linker *l, const struct function *f, size
         t->address = (int64_t)f->offset + 8 * (int64_t)k + 8 * (immediate(slot) + 1);
         return 0;
     }
-    const uint8_t *symbol = find_symbol(l->table, u32_at(r + 4));
+    const uint8_t *symbol = find_symbol(table, u32_at(r + 4));
     if (!symbol)
         return 3;
     t->section = u32_at(symbol + 4);
     t->address = (int64_t)u64_at(symbol + 8);
-    if (symbol[16] != TEXT && !is_code(l->table, t->section))
+    if (symbol[16] != TEXT && !is_code(table, t->section))
         return is_call(slot) ? 9 : 0;
     if (symbol[16] == TEXT ? t->section == NONE : symbol[16] != SECTION || (r[16] != 32 && r[16] != 64))
         return 8;
@@ -368,27 +389,44 @@ static uint32_t target_of(const struct linker *l, const struct function *f, size
     return is_call(slot) || is_wide_load(slots, f->slots, k) ? 0 : 6;
 }
 
+static size_t find_function(const struct run *table, uint32_t section, int64_t address)
+{
+    size_t row = 0;
+    while (row < rows_of(table, 3) && (u32_at(row_of(table, 3, row)) != section ||
+                                       (int64_t)u64_at(row_of(table, 3, row) + 8) != address))
+        row++;
+    return row;
+}
+
+uint32_t model_names(const struct run *table, size_t row, size_t k, size_t *callee)
+{
+    struct function f = function_at(table, row);
+    struct target t;
+    uint32_t refusal = target_of(table, &f, k, &t);
+    if (refusal)
+        return refusal;
+    if (!t.is_code)
+        return MODEL_COPIED;
+    *callee = find_function(table, t.section, t.address);
+    if (*callee == rows_of(table, 3))
+        return 10;
+    return is_call(row_of(table, 6, f.slot + k)) ? MODEL_CALL : MODEL_REFERENCE;
+}
+
 static int visit_slot(struct linker *l, size_t row, size_t start, size_t k)
 {
-    struct function f = function_at(l->table, row);
-    struct target t;
-    size_t callee = 0;
-    uint32_t refusal = target_of(l, &f, k, &t);
-    if (refusal)
-        return refuse(l, refusal, row, k);
-    if (!t.is_code)
+    size_t callee;
+    uint32_t names = model_names(l->table, row, k, &callee);
+    if (names < MODEL_COPIED)
+        return refuse(l, names, row, k);
+    if (names == MODEL_COPIED)
         return 1;
-    while (callee < rows_of(l->table, 3) && (u32_at(row_of(l->table, 3, callee)) != t.section ||
-                                             (int64_t)u64_at(row_of(l->table, 3, callee) + 8) != t.address))
-        callee++;
-    if (callee == rows_of(l->table, 3))
-        return refuse(l, 10, row, k);
     l->reached->row[l->reached->count++] = (uint32_t)callee;
     if (!l->is_placed[callee] && !append(l, callee))
         return 0;
     uint8_t *slot = l->out[0] + 8 * (start + k);
     put_u32(slot + 4, (int64_t)l->start[callee] - (int64_t)(start + k) - 1);
-    if (is_wide_load(row_of(l->table, 6, f.slot), f.slots, k))
+    if (names == MODEL_REFERENCE)
         set_source(slot, 4);
     return 1;
 }
@@ -406,7 +444,7 @@ static int link_root(struct linker *l, uint32_t root)
     struct function f = function_at(l->table, root);
     if (!has_room(l, &f))
         return refuse(l, 11, root, 0);
-    copy_in(l, &f);
+    copy_in(l, root, &f);
     return visit(l, root, 0);
 }
 
@@ -416,31 +454,186 @@ struct answer model_check_link(const struct run *table, uint32_t root)
     return a.number == 0 && root >= rows_of(table, 3) ? answer(13, 0, 0) : a;
 }
 
-static void wipe(const size_t *out_len, uint8_t *const *out)
+static void wipe(int outs, const size_t *out_len, uint8_t *const *out)
 {
-    for (int i = 0; i < 3; i++)
+    for (int i = 0; i < outs; i++)
         if (out_len[i])
             memset(out[i], 0, out_len[i]);
+}
+
+/* The link, and what it has placed, none where it is refused. */
+static struct answer link_placing(struct linker *l, uint32_t root)
+{
+    l->reached->count = 0;
+    l->refusal = model_check_link(l->table, root);
+    wipe(3, l->out_len, l->out);
+    if (l->refusal.number == 0 && link_root(l, root))
+        return answer_of(0, l->used[0], l->used[1], l->used[2]);
+    wipe(3, l->out_len, l->out);
+    l->pieces = 0;
+    return l->refusal;
 }
 
 struct answer model_link_reaching(const struct run *table, uint32_t root, const size_t *out_len, uint8_t *const *out,
                                   struct reached *reached)
 {
-    struct linker l = {table, out_len, out, reached, {0, 0, 0}, {0}, {0}, model_check_link(table, root)};
-    reached->count = 0;
-    wipe(out_len, out);
-    if (l.refusal.number == 0 && link_root(&l, root)) {
-        struct answer a = {0, {(uint32_t)l.used[0], (uint32_t)l.used[1], (uint32_t)l.used[2]}};
-        return a;
-    }
-    wipe(out_len, out);
-    return l.refusal;
+    struct linker l = {.table = table, .out_len = out_len, .out = out, .reached = reached};
+    return link_placing(&l, root);
 }
 
 struct answer model_link(const struct run *table, uint32_t root, const size_t *out_len, uint8_t *const *out)
 {
     struct reached reached;
     return model_link_reaching(table, root, out_len, out, &reached);
+}
+
+/* Document 02, W1: out[3] is the list. */
+struct answer model_link_pieces(const struct run *table, uint32_t root, const size_t *out_len, uint8_t *const *out)
+{
+    struct reached reached;
+    struct linker l = {.table = table, .out_len = out_len, .out = out, .reached = &reached};
+    wipe(4, out_len, out);
+    if (out_len[3] < 8 * (rows_of(table, 3) + 1))
+        return answer(32, 0, 0);
+    struct answer a = link_placing(&l, root);
+    for (size_t k = 0; k < l.pieces; k++) {
+        put_u32(out[3] + 8 * k, (int64_t)l.piece[k].row);
+        put_u32(out[3] + 8 * k + 4, (int64_t)l.piece[k].start);
+    }
+    return a;
+}
+
+/* ---- an image from elsewhere (document 02, W1): shown are the image, its function records, its line records and the list */
+
+struct examined {
+    const struct run *table, *shown;
+    size_t pieces, funcs, lines; /* shown */
+};
+
+/* 33 and 34, each of what is shown in turn; the list is 9. */
+static struct answer check_sizes(const struct run *shown)
+{
+    for (size_t i = 0; i < 4; i++) {
+        size_t whole = shown[i].len / row_shown[i], partial = shown[i].len % row_shown[i] != 0;
+        if (whole + partial > most_shown[i])
+            return answer(33, 6 + i, 0);
+        if (partial)
+            return answer(34, 6 + i, whole);
+    }
+    return answer(0, 0, 0);
+}
+
+static struct piece piece_at(const struct examined *e, size_t k)
+{
+    const uint8_t *p = e->shown[3].at + 8 * k;
+    return (struct piece){u32_at(p), u32_at(p + 4)};
+}
+
+/* 35 to 38. */
+static struct answer check_pieces(const struct examined *e, uint32_t root)
+{
+    size_t at = 0;
+    if (e->pieces == 0 || piece_at(e, 0).row != root || piece_at(e, 0).start != 0)
+        return answer(35, 0, 0);
+    for (size_t k = 0; k < e->pieces; k++) {
+        struct piece p = piece_at(e, k);
+        if (p.row >= rows_of(e->table, 3))
+            return answer(36, k, p.row);
+        if (p.start != at)
+            return answer(37, k, at);
+        at += u32_at(row_of(e->table, 3, p.row) + 4);
+    }
+    return at == e->shown[0].len / 8 ? answer(0, 0, 0) : answer(38, e->pieces, at);
+}
+
+static int starts_piece_of(const struct examined *e, size_t row, int64_t slot)
+{
+    for (size_t k = 0; k < e->pieces; k++)
+        if (piece_at(e, k).row == row && (int64_t)piece_at(e, k).start == slot)
+            return 1;
+    return 0;
+}
+
+/* Slot s of piece k: the link's refusal of its source, or 39 to 41. */
+static struct answer check_slot(const struct examined *e, size_t k, const struct function *f, size_t s)
+{
+    struct piece p = piece_at(e, k);
+    size_t here = p.start + s, callee = 0;
+    const uint8_t *source = row_of(e->table, 6, f->slot + s), *slot = e->shown[0].at + 8 * here;
+    uint32_t names = model_names(e->table, p.row, s, &callee);
+    if (names < MODEL_COPIED)
+        return answer(names, p.row, s);
+    int same_source = slot[1] >> 4 == source[1] >> 4, same_immediate = memcmp(slot + 4, source + 4, 4) == 0;
+    if (slot[0] != source[0] || (slot[1] & 15) != (source[1] & 15) || slot[2] != source[2] || slot[3] != source[3] ||
+        (!same_source && names != MODEL_REFERENCE) || (!same_immediate && names == MODEL_COPIED))
+        return answer_of(39, k, s, here);
+    if (names == MODEL_REFERENCE && slot[1] >> 4 != 4)
+        return answer_of(40, k, s, callee);
+    if (names != MODEL_COPIED && !starts_piece_of(e, callee, (int64_t)here + 1 + immediate(slot)))
+        return answer_of(41, k, s, callee);
+    return answer(0, 0, 0);
+}
+
+/* Whether record `at` of the image is record j of piece k: the first piece's as it is, a later one's as appended. */
+static int is_func_record(const struct examined *e, size_t k, const struct function *f, size_t j, size_t at)
+{
+    if (at >= e->funcs)
+        return 0;
+    const uint8_t *source = row_of(e->table, 7, f->func + j), *record = e->shown[1].at + 8 * at;
+    return u32_at(record) == (k ? piece_at(e, k).start : u32_at(source)) && u32_at(record + 4) == u32_at(source + 4);
+}
+
+static int is_line_record(const struct examined *e, size_t k, const struct function *f, size_t j, size_t at)
+{
+    if (at >= e->lines)
+        return 0;
+    const uint8_t *source = row_of(e->table, 8, f->line + j), *record = e->shown[2].at + 16 * at;
+    int64_t slot = k ? (int64_t)piece_at(e, k).start + line_difference(e->table, f, j) : (int64_t)u32_at(source);
+    return (int64_t)u32_at(record) == slot && memcmp(record + 4, source + 4, 12) == 0;
+}
+
+/* Piece k, whose records should stand from `func` and `line` on: its slots, 42, 12, 43. */
+static struct answer check_piece(const struct examined *e, size_t k, const struct function *f, size_t func, size_t line)
+{
+    for (size_t s = 0; s < f->slots; s++) {
+        struct answer a = check_slot(e, k, f, s);
+        if (a.number)
+            return a;
+    }
+    for (size_t j = 0; j < f->funcs; j++)
+        if (!is_func_record(e, k, f, j, func + j))
+            return answer_of(42, k, j, func + j);
+    if (k && stray_line(e->table, f) < f->lines)
+        return answer(12, piece_at(e, k).row, stray_line(e->table, f));
+    for (size_t j = 0; j < f->lines; j++)
+        if (!is_line_record(e, k, f, j, line + j))
+            return answer_of(43, k, j, line + j);
+    return answer(0, 0, 0);
+}
+
+static struct answer check_image(const struct examined *e)
+{
+    size_t func = 0, line = 0;
+    for (size_t k = 0; k < e->pieces; k++) {
+        struct function f = function_at(e->table, piece_at(e, k).row);
+        struct answer a = check_piece(e, k, &f, func, line);
+        if (a.number)
+            return a;
+        func += f.funcs;
+        line += f.lines;
+    }
+    return e->funcs > func ? answer(44, 7, func) : e->lines > line ? answer(44, 8, line) : answer(0, e->pieces, 0);
+}
+
+struct answer model_examine(const struct run *table, uint32_t root, const struct run *shown)
+{
+    struct examined e = {table, shown, shown[3].len / 8, shown[1].len / 8, shown[2].len / 16};
+    struct answer a = model_check_link(table, root);
+    if (a.number == 0)
+        a = check_sizes(shown);
+    if (a.number == 0)
+        a = check_pieces(&e, root);
+    return a.number ? a : check_image(&e);
 }
 
 /* The first row of table 2 with an index, a partial row not among them. */

@@ -5,8 +5,9 @@
 The stored cases of crates/replay (tools/cases.py says how they are laid out) are
 cut apart; of the cases with the same kind, number and first two places the
 smallest is kept, if it is small.  Each becomes two inputs: its bytes as they
-are, and the same bytes to be repaired.  Beside them stand strings of choices for
-the generator.  fuzz/cut.c reads the form.
+are, and the same bytes to be repaired; both end with choices of images and lists
+for the examiner.  Beside them stand strings of choices for the generator.
+fuzz/cut.c reads the form.
 """
 
 import os
@@ -66,8 +67,8 @@ def smallest():
 def main():
     directory = sys.argv[1]
     os.makedirs(directory, exist_ok=True)
-    seeds = [raw(way, words, body) for words, body in smallest() for way in (RAW, REPAIRED)]
     rng = random.Random(SEED)
+    seeds = [raw(way, words, body) + rng.randbytes(8) for words, body in smallest() for way in (RAW, REPAIRED)]
     seeds += [bytes([GENERATED]) + rng.randbytes(rng.randint(20, 600)) for _ in range(CHOICES)]
     for i, seed in enumerate(seeds):
         with open(os.path.join(directory, f"{i:04}"), "wb") as f:

@@ -1,4 +1,5 @@
-/* Barkruffle: sets the maps of an eBPF object, links its functions into one program, and reads its records.
+/* Barkruffle: sets the maps of an eBPF object, links its functions into one program, examines programs that others have
+ * linked, and reads records.
  *
  * Every function here is proved to return the number, and to leave every lent buffer with the bytes, that the
  * project's definitions give. None asks anything of the bytes: broken tables are refused with a number.
@@ -16,9 +17,11 @@
  * It is written on every answer. What the numbers say stands with each answer below.
  *
  * Stack. A link recurses once for each function that it appends, 64 at most. The deepest, a chain of 64 functions
- * that ends in a call of the root, was measured at 103,928 bytes; give a thread that links 128 KiB beside its own. A link
- * with rows lays them into a table of its own, 24,600 bytes of the stack, and was measured at 128,568: give it 160 KiB.
- * No other function here recurses. tests/stack.c measures both, and fails past 128 and 160 KiB.
+ * that ends in a call of the root, was measured at 106,584 bytes; give a thread that links 128 KiB beside its own. A link
+ * with rows lays them into a table of its own, 24,600 bytes of the stack, and was measured at 131,224: give it 160 KiB.
+ * A link with its list was measured at 106,552: 128 KiB. No other function here recurses; an examination was measured at
+ * 974 bytes, and needs 16 KiB at most.
+ * tests/stack.c measures all four, and fails past 128, 160, 128 and 16 KiB.
  *
  * The tables, by number, with the bytes of a row and the most rows:
  *   1 code sections       4    64   number u32; strictly rising
@@ -35,6 +38,10 @@
  *   8 line records       16  4096   slot u32, file u32, line u32, column u32
  * Tables 6, 7 and 8 hold exactly the rows that table 3 adds up to. Sections are at most 65535, addresses and
  * offsets at most 2^48 - 1.
+ *
+ * A list of pieces, in rows of 8 bytes: function u32, a row of table 3, and start u32, a slot of the image. A piece is one
+ * copy of a function in an image. The list has them in the order in which they lie there, each starting where the one
+ * before it ends, the root first at 0. So all starts but the first are above 0.
  */
 #ifndef BARKRUFFLE_H
 #define BARKRUFFLE_H
@@ -50,7 +57,8 @@ extern "C" {
  * rows, slots and records count from 0, slots and records within their function. Only the first refusal is told:
  * 1 over all tables given, then 2, both by table number, then 13, then those of the step itself. */
 enum barkruffle_number {
-    /* Done. Link: slots, function records, line records of the image. Map step: relocations applied. Readers: records. */
+    /* Done. Link: slots, function records, line records of the image. Map step: relocations applied. Readers: records.
+     * Examination: yes, and the pieces. */
     BARKRUFFLE_DONE = 0,
     /* Too many rows; a partial row counts as one: table, 0. */
     BARKRUFFLE_TOO_MANY_ROWS = 1,
@@ -79,7 +87,46 @@ enum barkruffle_number {
     /* The root is no row of table 3: 0, 0. */
     BARKRUFFLE_NO_ROOT = 13,
     /* Broken info data, or no record k: 0, 0. */
-    BARKRUFFLE_BROKEN_INFO = 14
+    BARKRUFFLE_BROKEN_INFO = 14,
+
+    /* The caller's mistake, told before every other number: the buffer for the list of pieces is too short: 0, 0. */
+    BARKRUFFLE_NO_LIST_ROOM = 32,
+
+    /* What an examination finds in what it is shown, in this order and by these places:
+     *
+     *   no.  when                                                           places
+     *   33   more rows than an image can have; a partial row counts as one  what, 0, 0
+     *   34   a partial row at the end                                       what, whole rows, 0
+     *   35   the first piece is not the root at 0, or there is none         0, 0, 0
+     *   36   a piece's function is no row of table 3                        piece, that number, 0
+     *   37   a piece does not start where the piece before it ends          piece, slot where it should start, 0
+     *   38   the pieces end elsewhere than the image                        pieces, slot where they end, 0
+     *   39   a slot differs from its source in what may not change          piece, slot, slot of the image
+     *   40   a reference without source register 4                          piece, slot, function named
+     *   41   a call or reference goes to no start of a piece of the
+     *        function that its source names                                 piece, slot, function named
+     *   42   a function record of a piece differs, or is missing            piece, record, record of the image
+     *   43   a line record of a piece differs, or is missing                piece, record, record of the image
+     *   44   records over, that belong to no piece                          7 or 8, first record that is over, 0
+     *
+     * What: 6 the image, 7 its function records, 8 its line records, 9 the list, which has at most a piece for each of an
+     * image's 4096 slots. Pieces count from 0 in the list, slots and records within their piece, those of the image
+     * within the image. 33 and 34 are told of 6, 7, 8, 9 in turn, 36 and 37 of each piece in turn; then, piece by piece:
+     * of its slots, in rising order, what a link would refuse of the source (3, 6, 8, 9, 10, by the link's places:
+     * function, slot), 39, 40, 41; of its records 42, then in every piece but the first 12 (by the link's places:
+     * function, record), then 43; and after all pieces 44. */
+    BARKRUFFLE_SHOWN_TOO_LONG = 33,
+    BARKRUFFLE_SHOWN_PARTIAL = 34,
+    BARKRUFFLE_ROOT_NOT_FIRST = 35,
+    BARKRUFFLE_NO_SUCH_FUNCTION = 36,
+    BARKRUFFLE_NOT_TILED = 37,
+    BARKRUFFLE_ENDS_ELSEWHERE = 38,
+    BARKRUFFLE_SLOT_CHANGED = 39,
+    BARKRUFFLE_NOT_REFERENCE = 40,
+    BARKRUFFLE_WRONG_TARGET = 41,
+    BARKRUFFLE_FUNC_INFO_DIFFERS = 42,
+    BARKRUFFLE_LINE_INFO_DIFFERS = 43,
+    BARKRUFFLE_RECORDS_OVER = 44
 };
 
 /* The length of a place buffer that holds all three numbers. */
@@ -88,6 +135,10 @@ enum barkruffle_number {
 #define BARKRUFFLE_IMAGE (4096 * 8)
 #define BARKRUFFLE_IMAGE_FUNC_INFO (256 * 8)
 #define BARKRUFFLE_IMAGE_LINE_INFO (4096 * 16)
+/* The bytes that a list of pieces needs for a table 3 of so many bytes: a row for each function, and one for the root's
+ * copy. And the bytes that are enough for every table 3 of at most 64 whole rows; one with more is then 32 and not 1. */
+#define BARKRUFFLE_PIECES(functions_len) (((size_t)(functions_len) / 32 + 1) * 8)
+#define BARKRUFFLE_IMAGE_PIECES (65 * 8)
 
 /* Rewrites table 6 in place: each wide load whose relocation names a map gets the map's file descriptor, and with
  * data also its value's offset.
@@ -123,6 +174,65 @@ uint32_t barkruffle_link(
     uint8_t *image, size_t image_len,
     uint8_t *image_func_info, size_t image_func_info_len,
     uint8_t *image_line_info, size_t image_line_info_len,
+    uint8_t *places, size_t places_len);
+
+/* barkruffle_link with the list of its pieces as one more output, in the order of placing: what barkruffle_examine asks for.
+ *
+ * Answers: those of barkruffle_link, and 32 before every other, if `pieces_len` is below BARKRUFFLE_PIECES(functions_len).
+ * Number, places and the other outputs are those of barkruffle_link on every input that is not 32. On 0 `pieces` holds the
+ * list and zero after it. On any other answer, 32 too, all four outputs are zero from end to end.
+ * The list ends before the first row after row 0 whose start is 0, or with the buffer:
+ *
+ *     size_t n = 8;
+ *     while (n + 8 <= pieces_len && memcmp(pieces + n + 4, "\0\0\0\0", 4) != 0)
+ *         n += 8;
+ *
+ * leaves its length in bytes in n: what barkruffle_examine takes as the length of `pieces`. */
+uint32_t barkruffle_link_pieces(
+    const uint8_t *code, size_t code_len,
+    const uint8_t *symbols, size_t symbols_len,
+    const uint8_t *functions, size_t functions_len,
+    const uint8_t *relocations, size_t relocations_len,
+    const uint8_t *instructions, size_t instructions_len,
+    const uint8_t *func_info, size_t func_info_len,
+    const uint8_t *line_info, size_t line_info_len,
+    uint32_t root,
+    uint8_t *image, size_t image_len,
+    uint8_t *image_func_info, size_t image_func_info_len,
+    uint8_t *image_line_info, size_t image_line_info_len,
+    uint8_t *pieces, size_t pieces_len,
+    uint8_t *places, size_t places_len);
+
+/* Examines an image, whoever made it: whether it is a link of the function at row `root` of table 3, in some order, made of
+ * the pieces in the list. The tables are those that a link takes: `instructions` is table 6 after the map step, since maps
+ * are set in the image. Only `places` is written; all else is only read. Each length is that of the rows alone, with
+ * nothing after them: a list with the zero after it is a no.
+ *
+ * Answers: 0, which is yes, and the first place is the number of pieces; any other number is a no and says what is wrong
+ * first, and where: 1, 2, 13 of the tables and the root; 33 to 44; 3, 6, 8, 9, 10, 12 where a link would refuse the source.
+ * It is yes exactly when all of this holds: the tables pass; image and records have whole rows within the limits of an image;
+ * the first piece is the root at 0, and the pieces tile the image in the order of the list, to its end; no piece has a source
+ * slot that a link refuses, and none but the first has a line record that a link refuses; every slot is its source slot with
+ * the immediate of calls and references and the source register of references rewritten, and nothing else; each of these
+ * goes to the start of a piece of the function that its source names, any such piece, and references have source register
+ * 4; and the records are those of the pieces in the order of the list, the first piece's unchanged, later ones as a link
+ * appends them, none over. A function may stand in several pieces, and in one that nobody calls.
+ * What barkruffle_link_pieces leaves with a 0 has a yes. An image that has a yes walks as its source does (demand 3). A link
+ * may refuse what has a yes in one case: a root with a stray line record that is called again, since a link appends its copy
+ * (12) and an image from elsewhere may call the first piece. */
+uint32_t barkruffle_examine(
+    const uint8_t *code, size_t code_len,
+    const uint8_t *symbols, size_t symbols_len,
+    const uint8_t *functions, size_t functions_len,
+    const uint8_t *relocations, size_t relocations_len,
+    const uint8_t *instructions, size_t instructions_len,
+    const uint8_t *func_info, size_t func_info_len,
+    const uint8_t *line_info, size_t line_info_len,
+    uint32_t root,
+    const uint8_t *image, size_t image_len,
+    const uint8_t *image_func_info, size_t image_func_info_len,
+    const uint8_t *image_line_info, size_t image_line_info_len,
+    const uint8_t *pieces, size_t pieces_len,
     uint8_t *places, size_t places_len);
 
 /* A row of table 2: C's own layout of it is the row's 24 bytes. The padding is to be zero, as in the table's bytes. */

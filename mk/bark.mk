@@ -9,8 +9,8 @@ bark:
 	mkdir -p $(dir $(BARK))
 	$(GCC) $(CFLAGS_C) -o $(BARK) src/bark.c target/staticlib/libtool.a $(OS_C)
 
-# Every way of bark to end, and its words. The image is held to what an independent model makes of the same tables, and so are
-# the words, the listing and the image of random objects.
+# Every way of bark to end, and its words. The image and its list are held to what an independent model makes of the same tables, and
+# so are the words, the listing, the image and the list of random objects, and what is said of images that are shown.
 test-bark: bark
 	sh tests/bark.sh $(BARK) > target/c/bark.out
 	diff tests/bark.out target/c/bark.out

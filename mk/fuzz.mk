@@ -9,7 +9,7 @@ FUZZ_RUNS ?= 25000
 FUZZ_SEED ?= 1
 CLANG ?= clang
 FUZZ_OUT = target/fuzz
-FUZZ_HARNESS = fuzz/entries.c fuzz/cut.c fuzz/lend.c fuzz/long.c fuzz/model.c
+FUZZ_HARNESS = fuzz/entries.c fuzz/cut.c fuzz/images.c fuzz/lend.c fuzz/long.c fuzz/model.c
 FUZZ_PLAIN = fuzz/drive.c $(FUZZ_HARNESS)
 CFLAGS_FUZZ = -std=c11 -O2 -g -Wall -Wextra -Werror -Iinclude
 # clang does not define that name by itself; it turns on the counters by which the fuzzer sees answers and places.

@@ -96,6 +96,71 @@ static uint32_t link_in(struct object *o, uint32_t root, size_t image_n, size_t 
     return r;
 }
 
+/* The same with the list, which is one more output: barkruffle_link_pieces, and what it says of barkruffle_link's outputs. */
+static uint8_t pieces[BARKRUFFLE_IMAGE_PIECES + 16];
+static uint8_t list_image[sizeof image], list_funcs[sizeof funcs], list_lines[sizeof lines], list_places[32];
+
+static uint32_t link_listed(struct object *o, uint32_t root, size_t image_n, size_t funcs_n, size_t lines_n, size_t pieces_n,
+                            size_t room)
+{
+    memset(list_image, 0xaa, sizeof list_image);
+    memset(list_funcs, 0xaa, sizeof list_funcs);
+    memset(list_lines, 0xaa, sizeof list_lines);
+    memset(pieces, 0xaa, sizeof pieces);
+    memset(list_places, 0xee, sizeof list_places);
+    uint32_t r = barkruffle_link_pieces(LENT(o->code), LENT(o->symbols), LENT(o->functions), LENT(o->relocations),
+                                        LENT(o->instructions), LENT(o->func_info), LENT(o->line_info), root, list_image,
+                                        image_n, list_funcs, funcs_n, list_lines, lines_n, pieces, pieces_n, list_places, room);
+    all("past the list", pieces + pieces_n, 0xaa, sizeof pieces - pieces_n);
+    if (r != BARKRUFFLE_DONE)
+        all("refused list", pieces, 0, pieces_n);
+    if (r == BARKRUFFLE_NO_LIST_ROOM) {
+        all("no room for the list: image", list_image, 0, image_n);
+        all("no room for the list: function records", list_funcs, 0, funcs_n);
+        all("no room for the list: line records", list_lines, 0, lines_n);
+        all("past the image", list_image + image_n, 0xaa, sizeof list_image - image_n);
+        same_places("no room for the list", list_places, room, 0, 0, 0);
+        return r;
+    }
+    same("with the list", link_in(o, root, image_n, funcs_n, lines_n, room), r);
+    same_bytes("with the list: image", list_image, image, sizeof image);
+    same_bytes("with the list: function records", list_funcs, funcs, sizeof funcs);
+    same_bytes("with the list: line records", list_lines, lines, sizeof lines);
+    same_bytes("with the list: places", list_places, places, sizeof places);
+    return r;
+}
+
+/* What an examination is shown. */
+struct shown {
+    const uint8_t *image;
+    size_t slots;
+    const uint8_t *funcs;
+    size_t func_records;
+    const uint8_t *lines;
+    size_t line_records;
+    const uint8_t *pieces;
+    size_t count;
+};
+
+static uint32_t examine_in(struct object *o, uint32_t root, const struct shown *s, size_t room)
+{
+    memset(places, 0xee, sizeof places);
+    return barkruffle_examine(LENT(o->code), LENT(o->symbols), LENT(o->functions), LENT(o->relocations),
+                              LENT(o->instructions), LENT(o->func_info), LENT(o->line_info), root, s->image, 8 * s->slots,
+                              s->funcs, 8 * s->func_records, s->lines, 16 * s->line_records, s->pieces, 8 * s->count, places,
+                              room);
+}
+
+/* A no, at every length of the places. */
+static void is_no(const char *what, struct object *o, uint32_t root, const struct shown *s, uint32_t number, uint32_t a,
+                  uint32_t b, uint32_t c)
+{
+    for (size_t room = 0; room <= 16; room++) {
+        same(what, examine_in(o, root, s, room), number);
+        same_places(what, places, room, a, b, c);
+    }
+}
+
 /* Document 01: a root of 2 slots that calls itself without a relocation. */
 static void own_call(void)
 {
@@ -198,6 +263,165 @@ static void depth_first(void)
     o->symbols.bytes[17] = 1; /* padding */
     same("broken symbol", link_in(o, 0, 56, 0, 0, 12), BARKRUFFLE_BROKEN_ROW);
     same_places("broken symbol", places, 12, 2, 0, 0);
+    free(o);
+}
+
+/* A root of 4 slots, with records, that calls F and loads it: 2 slots. */
+static struct object *calling_and_loading(void)
+{
+    struct object *o = new_object();
+    code_section(&o->code, 1);
+    symbol(&o->symbols, 5, 1, 32, 1);
+    function(&o->functions, 1, 4, 0, 0, 1, 1);
+    function(&o->functions, 1, 2, 32, 32, 1, 2);
+    relocation(&o->relocations, 1, 5, 0, 32);
+    relocation(&o->relocations, 1, 5, 8, 64);
+    call(&o->instructions, 9);
+    slot(&o->instructions, 0x18, 0x02, 0, 0);
+    slot(&o->instructions, 0, 0, 0, 0);
+    leave(&o->instructions);
+    plain(&o->instructions);
+    leave(&o->instructions);
+    func_record(&o->func_info, 0, 7);
+    func_record(&o->func_info, 4, 8);
+    line_record(&o->line_info, 0, 1, 10, 2);
+    line_record(&o->line_info, 4, 1, 20, 3);
+    line_record(&o->line_info, 5, 1, 21, 3);
+    return o;
+}
+
+/* The list: its rows, zero after it, and the bytes that it needs. */
+static void list_of_pieces(void)
+{
+    static const uint8_t want[16] = {0, 0, 0, 0, 0, 0, 0, 0, 1, 0, 0, 0, 4, 0, 0, 0};
+    struct object *o = calling_and_loading();
+    same("the list's bytes", BARKRUFFLE_PIECES(o->functions.len), 24);
+    same("the most that a list takes", BARKRUFFLE_PIECES(64 * 32), BARKRUFFLE_IMAGE_PIECES);
+    for (size_t room = 0; room <= 16; room++)
+        for (size_t n = 24; n <= 40; n++) {
+            same("with its list", link_listed(o, 0, 64, 24, 80, n, room), BARKRUFFLE_DONE);
+            same_places("with its list", list_places, room, 6, 2, 3);
+            same_bytes("the list", pieces, want, 16);
+            all("zero after the list", pieces + 16, 0, n - 16);
+        }
+    for (size_t n = 0; n < 24; n++)
+        same("no room for the list", link_listed(o, 0, 64, 24, 80, n, 12), BARKRUFFLE_NO_LIST_ROOM);
+    same("refused with its list", link_listed(o, 2, 64, 24, 80, 24, 12), BARKRUFFLE_NO_ROOT);
+    same("no room with its list", link_listed(o, 0, 47, 24, 80, 24, 12), BARKRUFFLE_NO_ROOM);
+    same_places("no room with its list", list_places, 12, 1, 0, 0);
+    /* 32 comes before every other number: a partial row asks for none, a row past the limit does */
+    o->functions.len = 65 * 32 - 1;
+    same("64 rows and a part", link_listed(o, 2, 64, 24, 80, BARKRUFFLE_IMAGE_PIECES, 12), BARKRUFFLE_TOO_MANY_ROWS);
+    o->functions.len++;
+    same("65 rows", link_listed(o, 2, 64, 24, 80, BARKRUFFLE_IMAGE_PIECES, 12), BARKRUFFLE_NO_LIST_ROOM);
+    same("65 rows and their list", link_listed(o, 2, 64, 24, 80, BARKRUFFLE_PIECES(o->functions.len), 12),
+         BARKRUFFLE_TOO_MANY_ROWS);
+    same("nothing lent, no list", barkruffle_link_pieces(NULL, 0, NULL, 0, NULL, 0, NULL, 0, NULL, 0, NULL, 0, NULL, 0, 0,
+                                                         NULL, 0, NULL, 0, NULL, 0, NULL, 0, NULL, 0),
+         BARKRUFFLE_NO_LIST_ROOM);
+    same("nothing lent", barkruffle_link_pieces(NULL, 0, NULL, 0, NULL, 0, NULL, 0, NULL, 0, NULL, 0, NULL, 0, 0, NULL, 0,
+                                                NULL, 0, NULL, 0, pieces, 8, NULL, 0),
+         BARKRUFFLE_NO_ROOT);
+    free(o);
+}
+
+/* One byte of an accepted image, of its records or of its list changed, and the no that names it. */
+static void one_byte_changed(struct object *o, const struct shown *s)
+{
+    static const struct {
+        int part;
+        size_t byte;
+        uint8_t value;
+        uint32_t number, places[3];
+    } no[] = {
+        {3, 8, 9, BARKRUFFLE_NO_SUCH_FUNCTION, {1, 9, 0}},      {3, 12, 5, BARKRUFFLE_NOT_TILED, {1, 4, 0}},
+        {3, 4, 1, BARKRUFFLE_ROOT_NOT_FIRST, {0, 0, 0}},        {0, 34, 1, BARKRUFFLE_SLOT_CHANGED, {1, 0, 4}},
+        {0, 9, 0x32, BARKRUFFLE_NOT_REFERENCE, {0, 1, 1}},      {0, 4, 4, BARKRUFFLE_WRONG_TARGET, {0, 0, 1}},
+        {0, 12, 0xfe, BARKRUFFLE_WRONG_TARGET, {0, 1, 1}},      {1, 8, 5, BARKRUFFLE_FUNC_INFO_DIFFERS, {1, 0, 1}},
+        {2, 32, 4, BARKRUFFLE_LINE_INFO_DIFFERS, {1, 1, 2}},    {2, 12, 9, BARKRUFFLE_LINE_INFO_DIFFERS, {0, 0, 0}},
+    };
+    uint8_t *part[4] = {list_image, list_funcs, list_lines, pieces};
+    for (size_t k = 0; k < sizeof no / sizeof *no; k++) {
+        uint8_t *byte = part[no[k].part] + no[k].byte, kept = *byte;
+        *byte = no[k].value;
+        is_no("one byte changed", o, 0, s, no[k].number, no[k].places[0], no[k].places[1], no[k].places[2]);
+        *byte = kept;
+    }
+    same("and put back", examine_in(o, 0, s, 12), BARKRUFFLE_DONE);
+}
+
+/* More or less shown than there is. */
+static void other_sizes(struct object *o, const struct shown *s)
+{
+    struct shown longer = *s, none = *s, shorter = *s, over = *s;
+    longer.slots = 4097;
+    none.count = 0;
+    shorter.slots = 5;
+    over.func_records = 3;
+    is_no("too long", o, 0, &longer, BARKRUFFLE_SHOWN_TOO_LONG, 6, 0, 0);
+    is_no("no pieces", o, 0, &none, BARKRUFFLE_ROOT_NOT_FIRST, 0, 0, 0);
+    is_no("a slot missing", o, 0, &shorter, BARKRUFFLE_ENDS_ELSEWHERE, 2, 6, 0);
+    is_no("a record over", o, 0, &over, BARKRUFFLE_RECORDS_OVER, 7, 2, 0);
+    memset(places, 0xee, sizeof places);
+    same("a partial row", barkruffle_examine(LENT(o->code), LENT(o->symbols), LENT(o->functions), LENT(o->relocations),
+                                             LENT(o->instructions), LENT(o->func_info), LENT(o->line_info), 0, s->image, 48,
+                                             s->funcs, 16, s->lines, 47, s->pieces, 16, places, 12), BARKRUFFLE_SHOWN_PARTIAL);
+    same_places("a partial row", places, 12, 8, 2, 0);
+}
+
+/* What was linked has a yes; each thing changed in it, or in the tables under it, has the no that names it. */
+static void examined(void)
+{
+    struct object *o = calling_and_loading();
+    same("to be examined", link_listed(o, 0, 64, 24, 80, 24, 12), BARKRUFFLE_DONE);
+    struct shown s = {list_image, 6, list_funcs, 2, list_lines, 3, pieces, 2};
+    for (size_t room = 0; room <= 16; room++) {
+        same("yes", examine_in(o, 0, &s, room), BARKRUFFLE_DONE);
+        same_places("yes", places, room, 2, 0, 0);
+    }
+    other_sizes(o, &s);
+    one_byte_changed(o, &s);
+    is_no("another root", o, 1, &s, BARKRUFFLE_ROOT_NOT_FIRST, 0, 0, 0);
+    is_no("no root", o, 2, &s, BARKRUFFLE_NO_ROOT, 0, 0, 0);
+    o->line_info.bytes[32] = 6;
+    is_no("a line record outside", o, 0, &s, BARKRUFFLE_LINE_OUTSIDE, 1, 1, 0);
+    o->symbols.bytes[16] = 0;
+    is_no("a form unknown", o, 0, &s, BARKRUFFLE_UNKNOWN_FORM, 0, 0, 0);
+    o->symbols.bytes[17] = 1;
+    is_no("a broken symbol", o, 0, &s, BARKRUFFLE_BROKEN_ROW, 2, 0, 0);
+    same("nothing shown", barkruffle_examine(NULL, 0, NULL, 0, NULL, 0, NULL, 0, NULL, 0, NULL, 0, NULL, 0, 0, NULL, 0, NULL,
+                                             0, NULL, 0, NULL, 0, NULL, 0), BARKRUFFLE_NO_ROOT);
+    free(o);
+}
+
+/* An image of another order: F twice, the copy that nobody calls first. The load goes to the second. */
+static void from_elsewhere(void)
+{
+    static const uint8_t list[24] = {0, 0, 0, 0, 0, 0, 0, 0, 1, 0, 0, 0, 4, 0, 0, 0, 1, 0, 0, 0, 6, 0, 0, 0};
+    struct object *o = calling_and_loading();
+    struct table i = {.len = 0}, f = {.len = 0}, l = {.len = 0};
+    call(&i, 5);
+    slot(&i, 0x18, 0x42, 0, 4);
+    put(&i, 0, 8);
+    leave(&i);
+    for (int twice = 0; twice < 2; twice++) {
+        plain(&i);
+        leave(&i);
+    }
+    func_record(&f, 0, 7);
+    line_record(&l, 0, 1, 10, 2);
+    for (uint32_t start = 4; start <= 6; start += 2) {
+        func_record(&f, start, 8);
+        line_record(&l, start, 1, 20, 3);
+        line_record(&l, start + 1, 1, 21, 3);
+    }
+    struct shown s = {i.bytes, 8, f.bytes, 3, l.bytes, 5, list, 3};
+    same("from elsewhere", examine_in(o, 0, &s, 12), BARKRUFFLE_DONE);
+    same_places("from elsewhere", places, 12, 3, 0, 0);
+    i.bytes[4] = 3; /* the other piece of the same function */
+    same("from elsewhere, the other piece", examine_in(o, 0, &s, 12), BARKRUFFLE_DONE);
+    s.count = 2;
+    is_no("a piece not listed", o, 0, &s, BARKRUFFLE_ENDS_ELSEWHERE, 2, 6, 0);
     free(o);
 }
 
@@ -456,6 +680,9 @@ int main(void)
     symbol_rows();
     find_rows();
     depth_first();
+    list_of_pieces();
+    examined();
+    from_elsewhere();
     nothing_lent();
     records(barkruffle_func_info, barkruffle_func_info_record, barkruffle_func_info_record_number, 8, 8);
     records(barkruffle_func_info, barkruffle_func_info_record, barkruffle_func_info_record_number, 12, 8);

@@ -1,5 +1,6 @@
-/* How deep a link goes into the stack: a thread on a stack of our own, filled with a pattern, links a chain of 64
- * functions, the deepest there is, and what it left of the pattern is counted. Fails past what the header says. */
+/* How deep a link and an examination go into the stack: a thread on a stack of our own, filled with a pattern, links a chain of
+ * 64 functions, the deepest there is, or examines it, and what it left of the pattern is counted. Fails past what the header
+ * says. */
 #define _POSIX_C_SOURCE 200112L
 #include <pthread.h>
 #include "barkruffle.h"
@@ -8,9 +9,12 @@
 #define STACK (8u << 20)
 #define SAID (128u << 10)
 #define SAID_ROWS (160u << 10)
+#define SAID_EXAMINE (16u << 10)
+#define SLOTS 130
+#define PIECES 65
 
 static uint8_t image[BARKRUFFLE_IMAGE], funcs[BARKRUFFLE_IMAGE_FUNC_INFO], lines[BARKRUFFLE_IMAGE_LINE_INFO];
-static uint8_t places[BARKRUFFLE_PLACES];
+static uint8_t pieces[BARKRUFFLE_IMAGE_PIECES], places[BARKRUFFLE_PLACES];
 static struct barkruffle_symbol rows[1024];
 static struct object *o;
 static uint32_t result;
@@ -33,6 +37,23 @@ static void *link_chain_rows(void *unused)
     return unused;
 }
 
+static void *link_chain_listed(void *unused)
+{
+    result = barkruffle_link_pieces(LENT(o->code), LENT(o->symbols), LENT(o->functions), LENT(o->relocations),
+                                    LENT(o->instructions), LENT(o->func_info), LENT(o->line_info), 0, image, sizeof image,
+                                    funcs, sizeof funcs, lines, sizeof lines, pieces, sizeof pieces, places, sizeof places);
+    return unused;
+}
+
+/* What was linked last with its list: a function record and a line record for each piece. */
+static void *examine_chain(void *unused)
+{
+    result = barkruffle_examine(LENT(o->code), LENT(o->symbols), LENT(o->functions), LENT(o->relocations),
+                                LENT(o->instructions), LENT(o->func_info), LENT(o->line_info), 0, image, 8 * SLOTS, funcs,
+                                8 * PIECES, lines, 16 * PIECES, pieces, 8 * PIECES, places, sizeof places);
+    return unused;
+}
+
 /* Bytes of the stack that a thread has written to. */
 static size_t depth_of(void *(*run)(void *), uint8_t *stack)
 {
@@ -51,11 +72,12 @@ static size_t depth_of(void *(*run)(void *), uint8_t *stack)
     return STACK - k;
 }
 
-static int fails(const char *what, void *(*run)(void *), size_t said, uint8_t *stack)
+/* The first place is to be `count`. */
+static int fails(const char *what, void *(*run)(void *), uint32_t count, size_t said, uint8_t *stack)
 {
     size_t before = depth_of(idle, stack), with = depth_of(run, stack);
-    if (result != BARKRUFFLE_DONE || number_at(places, 0) != 130) {
-        printf("stack: %s gave %u, %u slots\n", what, result, number_at(places, 0));
+    if (result != BARKRUFFLE_DONE || number_at(places, 0) != count) {
+        printf("stack: %s gave %u (%u)\n", what, result, number_at(places, 0));
         return 1;
     }
     printf("stack: %s: %zu bytes over a thread that does nothing\n", what, with - before);
@@ -84,7 +106,10 @@ int main(void)
         rows[k].index = k;
         rows[k].section = NONE;
     }
-    int bad = fails("link", link_chain, SAID, stack) | fails("link with rows", link_chain_rows, SAID_ROWS, stack);
+    int bad = fails("link", link_chain, SLOTS, SAID, stack);
+    bad |= fails("link with rows", link_chain_rows, SLOTS, SAID_ROWS, stack);
+    bad |= fails("link with its list", link_chain_listed, SLOTS, SAID, stack);
+    bad |= fails("examination", examine_chain, PIECES, SAID_EXAMINE, stack);
     free(o);
     free(stack);
     return bad;

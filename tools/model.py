@@ -1,11 +1,13 @@
-"""An independent model of document 01, the requirements (docs/01-scope.md).
+"""An independent model of document 01, the requirements (docs/01-scope.md), and
+of what document 02 (docs/02-change-requests.md) adds to it.
 
-It is written from the words of that document alone, and not from the project's
+It is written from the words of those documents alone, and not from the project's
 definitions or code.  Each rule stands under the sentence that it says.  It is
 slow and literal on purpose: it searches every table from its start each time.
 
 `python3 tools/cases.py` runs the cases through this model and writes
-crates/replay/stdin and crates/replay/stdout.  There is nothing to install.
+crates/replay/stdin and crates/replay/stdout; `python3 tools/examine_cases.py`
+writes tests/examine.cases.  There is nothing to install.
 
 Every entry answers a number and three places, as document 01 counts them.
 """
@@ -35,11 +37,11 @@ OTHER, TEXT, SECTION = 0, 1, 2
 class Refused(Exception):
     """The first refusal: its number and its place numbers."""
 
-    def __init__(self, number, a=0, b=0):
-        super().__init__(number, a, b)
+    def __init__(self, number, a=0, b=0, c=0):
+        super().__init__(number, a, b, c)
         self.number = number
         # "Place numbers not named are 0."
-        self.places = (a, b, 0)
+        self.places = (a, b, c)
 
 
 # ---------------------------------------------------------------- bytes
@@ -427,6 +429,7 @@ class Linker:
         self.funcs = []     # each [slot, type]
         self.lines = []     # each [slot, file, line, column]
         self.placed = {}    # (section, address) to start
+        self.pieces = []    # (row, start), in the order of placing
 
     def records(self, func_info, line_info):
         funcs, lines, f_at, l_at = [], [], 0, 0
@@ -460,6 +463,7 @@ class Linker:
         self.image.extend(bytearray(slot) for slot in self.slots[root])
         self.funcs.extend(list(record) for record in self.func_records[root])
         self.lines.extend(list(record) for record in self.line_records[root])
+        self.pieces.append((root, 0))
         # "The root is not placed at the start: a call back to it appends one copy."
         self.visit(root, 0)
 
@@ -481,6 +485,7 @@ class Linker:
         for record in self.func_records[row]:
             self.funcs.append([start, record[1]])
         self.image.extend(bytearray(slot) for slot in self.slots[row])
+        self.pieces.append((row, start))
         # "append the function, place it, and visit all its slots before going on"
         self.placed[(function.section, function.address)] = start
         self.visit(row, start)
@@ -541,18 +546,18 @@ class Linker:
             return symbol.section, symbol.address + value
         raise Refused(8, row, k)
 
+    def function_at(self, row, k, target):
+        """10 if no row has that section and exactly that address; no other cause."""
+        for i, function in enumerate(self.functions):
+            if (function.section, function.address) == target:
+                return i
+        raise Refused(10, row, k)
+
     def visit_slot(self, row, start, k):
         target = self.target_of(row, k)
         if target is None:
             return
-        # "10 if no row has that section and exactly that address; no other cause."
-        callee = None
-        for i, function in enumerate(self.functions):
-            if (function.section, function.address) == target:
-                callee = i
-                break
-        if callee is None:
-            raise Refused(10, row, k)
+        callee = self.function_at(row, k, target)
         # "If that pair is not yet placed, append the function, ..."
         if target not in self.placed:
             self.append(callee)
@@ -573,26 +578,184 @@ def zero_after(data, length):
     return data + bytes(length - len(data))
 
 
-def link(code, symbols, functions, relocations, instructions, func_info, line_info, root,
-         image_len, func_len, line_len):
-    """(number, places, image, function records, line records)"""
+def link_with(code, symbols, functions, relocations, instructions, func_info, line_info, root,
+              image_len, func_len, line_len):
+    """What the link answers, and its pieces: none where it is refused."""
     tables = {1: code, 2: symbols, 3: functions, 4: relocations, 6: instructions,
               7: func_info, 8: line_info}
     # "A refused link has written zero everywhere in its outputs."
     wiped = (bytes(image_len), bytes(func_len), bytes(line_len))
     number, places = check_link(tables, root)
     if number != 0:
-        return (number, places) + wiped
+        return (number, places) + wiped, []
     linker = Linker(code, symbols, functions, relocations, instructions, func_info, line_info,
                     image_len, func_len, line_len)
     try:
         linker.start_with_root(root)
     except Refused as refusal:
-        return (refusal.number, refusal.places) + wiped
+        return (refusal.number, refusal.places) + wiped, []
     # "link: slots, function records, line records"
     places = (len(linker.image), len(linker.funcs), len(linker.lines))
     return (0, places, zero_after(b"".join(bytes(s) for s in linker.image), image_len),
-            zero_after(words(linker.funcs), func_len), zero_after(words(linker.lines), line_len))
+            zero_after(words(linker.funcs), func_len),
+            zero_after(words(linker.lines), line_len)), linker.pieces
+
+
+def link(code, symbols, functions, relocations, instructions, func_info, line_info, root,
+         image_len, func_len, line_len):
+    """(number, places, image, function records, line records)"""
+    return link_with(code, symbols, functions, relocations, instructions, func_info, line_info,
+                     root, image_len, func_len, line_len)[0]
+
+
+# ---------------------------------------------------------------- W1 of document 02
+
+# A list of pieces is rows of two little-endian u32, function row and start.
+PIECE_SIZE = 8
+# The number of the list where an answer names what is wrong; 6, 7 and 8 are the image and its records.
+LIST = 9
+
+
+def link_pieces(code, symbols, functions, relocations, instructions, func_info, line_info, root,
+                image_len, func_len, line_len, pieces_len):
+    """(number, places, image, function records, line records, pieces): the link with its list, "its
+    true list", in the order of placing."""
+    # 32, before every other: the list has no room for each function once and the root's copy.
+    if pieces_len < PIECE_SIZE * (len(functions) // ROW_SIZE[3] + 1):
+        return 32, (0, 0, 0), bytes(image_len), bytes(func_len), bytes(line_len), bytes(pieces_len)
+    answer, pieces = link_with(code, symbols, functions, relocations, instructions, func_info,
+                               line_info, root, image_len, func_len, line_len)
+    return answer + (zero_after(words(pieces), pieces_len),)
+
+
+class Examiner:
+    """"takes the tables, a root row, an image with its records and a claimed list of pieces".
+    What is wrong first is raised, in this order: sizes; the list; piece by piece its slots and its
+    records; records that are over."""
+
+    def __init__(self, source, image, func_info, line_info, pieces):
+        self.source = source
+        self.shown = (image, func_info, line_info, pieces)
+
+    def examine(self, root):
+        self.check_sizes()
+        self.check_list(root)
+        self.check_tiles()
+        funcs = lines = 0
+        for k, (row, start) in enumerate(self.pieces):
+            for slot in range(self.source.functions[row].slots):
+                self.check_slot(k, row, slot, start + slot)
+            self.check_func_records(k, row, start, funcs)
+            self.check_line_records(k, row, start, lines)
+            funcs += self.source.functions[row].func_records
+            lines += self.source.functions[row].line_records
+        self.check_over(funcs, lines)
+        return len(self.pieces)
+
+    def check_sizes(self):
+        """"so do ... an image over 01's limits".  Each function has a slot, so no image has more
+        pieces than slots."""
+        for table, size, most, data in zip((6, 7, 8, LIST), (8, 8, 16, PIECE_SIZE),
+                                           (MOST_IMAGE_SLOTS, MOST_IMAGE_FUNCS, MOST_IMAGE_LINES, MOST_IMAGE_SLOTS),
+                                           self.shown):
+            # 33: more than an image can hold, a partial row counted as one
+            if len(data) > size * most:
+                raise Refused(33, table)
+            # 34: a partial row, after so many whole ones
+            if len(data) % size != 0:
+                raise Refused(34, table, len(data) // size)
+        image, func_info, line_info, pieces = self.shown
+        self.image = [image[at:at + 8] for at in range(0, len(image), 8)]
+        self.funcs = [[unsigned(func_info, at + 4 * j, 4) for j in range(2)] for at in range(0, len(func_info), 8)]
+        self.lines = [[unsigned(line_info, at + 4 * j, 4) for j in range(4)] for at in range(0, len(line_info), 16)]
+        self.pieces = [(unsigned(pieces, at, 4), unsigned(pieces, at + 4, 4)) for at in range(0, len(pieces), 8)]
+        self.claimed = set(self.pieces)
+
+    def check_list(self, root):
+        # "the first piece is the root at 0": 35
+        if self.pieces[:1] != [(root, 0)]:
+            raise Refused(35)
+
+    def check_tiles(self):
+        """"the pieces tile the image in list order" """
+        at = 0
+        for k, (row, start) in enumerate(self.pieces):
+            # 36: its row is no row of table 3
+            if row >= len(self.source.functions):
+                raise Refused(36, k, row)
+            # 37: it starts elsewhere than where the one before it ends
+            if start != at:
+                raise Refused(37, k, at)
+            at += self.source.functions[row].slots
+        # 38: they end elsewhere than the image
+        if at != len(self.image):
+            raise Refused(38, len(self.pieces), at)
+
+    def check_slot(self, k, row, slot, here):
+        """"every slot is its source slot with only the permitted fields rewritten" """
+        source, shown = bytearray(self.source.slots[row][slot]), self.image[here]
+        # "A source slot ... that the link step would refuse makes it no": the link's own refusal
+        target = self.source.target_of(row, slot)
+        if target is None:
+            if bytes(source) != shown:
+                raise Refused(39, k, slot, here)
+            return
+        callee = self.source.function_at(row, slot, target)
+        is_reference = is_wide_load(self.source.slots[row], slot)
+        # Permitted: the immediate, and the source register of a reference.
+        source[4:8] = shown[4:8]
+        if is_reference:
+            set_source(source, shown[1] >> 4)
+        if bytes(source) != shown:
+            raise Refused(39, k, slot, here)
+        # "a reference with source register 4"
+        if is_reference and shown[1] >> 4 != 4:
+            raise Refused(40, k, slot, callee)
+        # "every resolved slot points to the start of a piece of the right function"
+        if (callee, here + 1 + immediate(shown)) not in self.claimed:
+            raise Refused(41, k, slot, callee)
+
+    def check_func_records(self, k, row, start, at):
+        """"the pieces' records follow the merge rule in list order" """
+        for j, record in enumerate(self.source.func_records[row]):
+            # The first piece's are unchanged, those of later ones get the start as slot.
+            right = record if k == 0 else [start, record[1]]
+            if self.funcs[at + j:at + j + 1] != [right]:
+                raise Refused(42, k, j, at + j)
+
+    def check_line_records(self, k, row, start, at):
+        records = self.source.line_records[row]
+        # "A ... line record that the link step would refuse makes it no"; the first piece meets no 12
+        for j, record in enumerate(records):
+            if k > 0 and not 0 <= record[0] - records[0][0] < self.source.functions[row].slots:
+                raise Refused(12, row, j)
+        for j, record in enumerate(records):
+            right = record if k == 0 else [start + (record[0] - records[0][0])] + record[1:]
+            if self.lines[at + j:at + j + 1] != [right]:
+                raise Refused(43, k, j, at + j)
+
+    def check_over(self, funcs, lines):
+        """"none over": 44"""
+        if len(self.funcs) > funcs:
+            raise Refused(44, 7, funcs)
+        if len(self.lines) > lines:
+            raise Refused(44, 8, lines)
+
+
+def examine(code, symbols, functions, relocations, instructions, func_info, line_info, root,
+            image, image_func_info, image_line_info, pieces):
+    """(number, places): 0 is yes, and the first place then counts the pieces"""
+    tables = {1: code, 2: symbols, 3: functions, 4: relocations, 6: instructions,
+              7: func_info, 8: line_info}
+    # "so do broken tables": 1, 2 and 13, as the link says them
+    number, places = check_link(tables, root)
+    if number != 0:
+        return number, places
+    source = Linker(code, symbols, functions, relocations, instructions, func_info, line_info, 0, 0, 0)
+    try:
+        return 0, (Examiner(source, image, image_func_info, image_line_info, pieces).examine(root), 0, 0)
+    except Refused as refusal:
+        return refusal.number, refusal.places
 
 
 # ---------------------------------------------------------------- record readers

@@ -5,6 +5,8 @@
 reads crates/replay/stdin, which `python3 tools/cases.py` makes, and runs it
 through tools/model.py, and then through copies of the model with one edit each:
 the errors that document 01 names, and others that a reader of it could make.
+Then the same with tests/examine.cases, which `python3 tools/examine_cases.py`
+makes, and wrong readings of W1 of document 02.
 It prints how many answers each edit changes, up to ten.  None may be 0.
 """
 
@@ -14,6 +16,8 @@ import resource
 import struct
 import sys
 import types
+
+import examine_form
 
 # The count of changed answers stops here.
 ENOUGH = 10
@@ -82,6 +86,124 @@ EDITS = [
 ]
 
 
+# Words of the examiner that several edits have.
+TARGET = "        if (callee, here + 1 + immediate(shown)) not in self.claimed:\n"
+COPIED = "            if bytes(source) != shown:\n                raise Refused(39, k, slot, here)\n            return\n"
+RESOLVED = "            set_source(source, shown[1] >> 4)\n        if bytes(source) != shown:\n"
+NAMED = "        target = self.source.target_of(row, slot)\n        if target is None:\n"
+STRAY = "            if k > 0 and not 0 <= record[0] - records[0][0] < self.source.functions[row].slots:\n                raise Refused(12, row, j)\n"
+ROW, START = "            if row >= len(self.source.functions):\n                raise Refused(36, k, row)\n", "            if start != at:\n                raise Refused(37, k, at)\n"
+OVER_FUNCS, OVER_LINES = "        if len(self.funcs) > funcs:\n            raise Refused(44, 7, funcs)\n", "        if len(self.lines) > lines:\n            raise Refused(44, 8, lines)\n"
+FUNC, LINE = "self.funcs[at + j:at + j + 1] != [right]", "self.lines[at + j:at + j + 1] != [right]"
+LONG, PARTIAL = "            if len(data) > size * most:\n", "            if len(data) % size != 0:\n"
+RECORDS = "            self.check_func_records(k, row, start, funcs)\n            self.check_line_records(k, row, start, lines)\n"
+PIECE = "        for k, (row, start) in enumerate(self.pieces):\n            for slot in range(self.source.functions[row].slots):\n"
+LIST = "self.check_sizes()\n        self.check_list(root)\n"
+
+EXAMINE_EDITS = [
+    ("target's row not compared", TARGET, "        if here + 1 + immediate(shown) not in [start for _, start in self.pieces]:\n"),
+    ("target's start not compared", TARGET, "        if callee not in [row for row, _ in self.pieces]:\n"),
+    ("target inside the right piece", TARGET, "        if not any(row == callee and start <= here + 1 + immediate(shown) < start + self.source.functions[row].slots for row, start in self.pieces):\n"),
+    ("target without its 1", TARGET, "        if (callee, here + immediate(shown)) not in self.claimed:\n"),
+    ("target modulo the image", TARGET, "        if (callee, (here + 1 + immediate(shown)) % len(self.image)) not in self.claimed:\n"),
+    ("only a function's first piece is right", TARGET, "        if [p for p in self.pieces if p[0] == callee][:1] != [(callee, here + 1 + immediate(shown))]:\n"),
+    ("the first piece is never right", TARGET, "        if (callee, here + 1 + immediate(shown)) not in self.pieces[1:]:\n"),
+    ("only later pieces are right", TARGET, "        if (callee, here + 1 + immediate(shown)) not in self.claimed or immediate(shown) < -1:\n"),
+    ("register not compared", "if is_reference and shown[1] >> 4 != 4:", "if False:"),
+    ("register of the source kept", "if is_reference and shown[1] >> 4 != 4:", "if is_reference and shown[1] != self.source.slots[row][slot][1]:"),
+    ("calls with register 4 too", "        if is_reference:\n            set_source", "        if True:\n            set_source"),
+    ("40 after 41", "        if is_reference and shown[1] >> 4 != 4:", "        if is_reference and shown[1] >> 4 != 4 and (callee, here + 1 + immediate(shown)) in self.claimed:"),
+    ("39 after 41", RESOLVED, "            set_source(source, shown[1] >> 4)\n        if bytes(source) != shown and (callee, here + 1 + immediate(shown)) in self.claimed:\n"),
+    ("39 after 40", RESOLVED, "            set_source(source, shown[1] >> 4)\n        if bytes(source) != shown and not (is_reference and shown[1] >> 4 != 4):\n"),
+    ("opcodes of resolved slots not compared", RESOLVED, "            set_source(source, shown[1] >> 4)\n        if bytes(source[1:]) != shown[1:]:\n"),
+    ("destinations of resolved slots not compared", RESOLVED, "            set_source(source, shown[1] >> 4)\n        source[1] = source[1] & 0xF0 | shown[1] & 15\n        if bytes(source) != shown:\n"),
+    ("offsets of resolved slots not compared", RESOLVED, "            set_source(source, shown[1] >> 4)\n        source[2:4] = shown[2:4]\n        if bytes(source) != shown:\n"),
+    ("opcodes of copied slots not compared", COPIED, COPIED.replace("bytes(source) != shown", "bytes(source[1:]) != shown[1:]")),
+    ("registers of copied slots not compared", COPIED, COPIED.replace("bytes(source) != shown", "source[0] != shown[0] or bytes(source[2:]) != shown[2:]")),
+    ("offsets of copied slots not compared", COPIED, COPIED.replace("bytes(source) != shown", "bytes(source[:2] + source[4:]) != shown[:2] + shown[4:]")),
+    ("immediates of copied slots not compared", COPIED, COPIED.replace("bytes(source) != shown", "bytes(source[:4]) != shown[:4]")),
+    ("wide loads of data may have register 4", COPIED, COPIED.replace("bytes(source) != shown", "bytes(source[:1] + source[2:]) != shown[:1] + shown[2:] or (source[1] != shown[1] and (source[0] != 0x18 or shown[1] >> 4 != 4))")),
+    ("a refused slot taken for copied", NAMED, "        try:\n            target = self.source.target_of(row, slot)\n        except Refused:\n            target = None\n        if target is None:\n"),
+    ("a slot without its function taken for copied", "        callee = self.source.function_at(row, slot, target)\n        is_reference", "        if target not in [(f.section, f.address) for f in self.source.functions]:\n            return\n        callee = self.source.function_at(row, slot, target)\n        is_reference"),
+    ("a refusal placed by the piece", NAMED, "        try:\n            target = self.source.target_of(row, slot)\n        except Refused as refusal:\n            raise Refused(refusal.number, k, slot)\n        if target is None:\n"),
+    ("refusals of the first piece only", NAMED, "        try:\n            target = self.source.target_of(row, slot)\n        except Refused:\n            if k == 0:\n                raise\n            target = None\n        if target is None:\n"),
+    ("39 placed by the slot of the function", "Refused(39, k, slot, here)", "Refused(39, k, slot, slot)"),
+    ("41 placed by the piece's own function", "Refused(41, k, slot, callee)", "Refused(41, k, slot, row)"),
+    ("40 placed by the piece's own function", "Refused(40, k, slot, callee)", "Refused(40, k, slot, row)"),
+    ("the root not first", "        if self.pieces[:1] != [(root, 0)]:\n", "        if not self.pieces or self.pieces[0][1] != 0:\n"),
+    ("the first start not compared", "        if self.pieces[:1] != [(root, 0)]:\n", "        if not self.pieces or self.pieces[0][0] != root:\n"),
+    ("an empty list is no 35", "        if self.pieces[:1] != [(root, 0)]:\n", "        if self.pieces[:1] not in ([], [(root, 0)]):\n"),
+    ("rows of the list not tested", ROW, ""),
+    ("a row one too large", "if row >= len(self.source.functions):", "if row > len(self.source.functions):"),
+    ("starts not compared", START, ""),
+    ("starts in any order", "        at = 0\n        for k, (row, start)", "        at = 0\n        self.pieces.sort(key=lambda piece: piece[1])\n        for k, (row, start)"),
+    ("gaps between pieces", "            if start != at:\n", "            at = max(at, start)\n            if start != at:\n"),
+    ("pieces across each other", "            if start != at:\n", "            at = min(at, start)\n            if start != at:\n"),
+    ("37 says where the piece starts", "raise Refused(37, k, at)", "raise Refused(37, k, start)"),
+    ("37 before 36", ROW + "            # 37: it starts elsewhere than where the one before it ends\n" + START, START + ROW),
+    ("36 of all before 37", "        at = 0\n        for k, (row, start)", "        at = 0\n        for k, (row, start) in enumerate(self.pieces):\n            if row >= len(self.source.functions):\n                raise Refused(36, k, row)\n        for k, (row, start)"),
+    ("tiling not to the end", "        if at != len(self.image):\n", "        if at > len(self.image):\n"),
+    ("an image may end early", "        if at != len(self.image):\n", "        if at < len(self.image):\n"),
+    ("38 says where the image ends", "raise Refused(38, len(self.pieces), at)", "raise Refused(38, len(self.pieces), len(self.image))"),
+    ("a function only once", "        self.check_tiles()\n", "        self.check_tiles()\n        if len({row for row, _ in self.pieces}) < len(self.pieces):\n            raise Refused(37)\n"),
+    ("a function twice, but for the root", "        self.check_tiles()\n", "        self.check_tiles()\n        if len({row for row, _ in self.pieces[1:]}) < len(self.pieces) - 1:\n            raise Refused(37)\n"),
+    ("every piece called", "        self.check_over(funcs, lines)\n", "        self.check_over(funcs, lines)\n        if {start for _, start in self.pieces[1:]} - {here + 1 + immediate(slot) for here, slot in enumerate(self.image)}:\n            raise Refused(44)\n"),
+    ("records over allowed", OVER_FUNCS + OVER_LINES, "        return\n"),
+    ("function records over allowed", OVER_FUNCS, ""),
+    ("line records over allowed", OVER_LINES, ""),
+    ("lines over before function records over", OVER_FUNCS + OVER_LINES, OVER_LINES + OVER_FUNCS),
+    ("the root's copy: function records by the root's rule", "right = record if k == 0 else [start, record[1]]", "right = record if row == self.pieces[0][0] else [start, record[1]]"),
+    ("the root's copy: line records by the root's rule", "right = record if k == 0 else [start + (", "right = record if row == self.pieces[0][0] else [start + ("),
+    ("the first piece's function records as appended", "right = record if k == 0 else [start, record[1]]", "right = [start, record[1]]"),
+    ("the first piece's line records as appended", "right = record if k == 0 else [start + (record[0]", "right = [start + (record[0]"),
+    ("line records by their slot in the section", "[start + (record[0] - records[0][0])] + record[1:]\n            if", "[start + (record[0] - self.source.functions[row].section_offset // 8)] + record[1:]\n            if"),
+    ("function records' slots not compared", FUNC, "[r[1:] for r in self.funcs[at + j:at + j + 1]] != [right[1:]]"),
+    ("function records' types not compared", FUNC, "[r[:1] for r in self.funcs[at + j:at + j + 1]] != [right[:1]]"),
+    ("missing function records allowed", FUNC, "self.funcs[at + j:at + j + 1] not in ([], [right])"),
+    ("function records in any order", FUNC, "right not in self.funcs"),
+    ("line records' slots not compared", LINE, "[r[1:] for r in self.lines[at + j:at + j + 1]] != [right[1:]]"),
+    ("line records' files not compared", LINE, "[r[:1] + r[2:] for r in self.lines[at + j:at + j + 1]] != [right[:1] + right[2:]]"),
+    ("line records' lines not compared", LINE, "[r[:2] + r[3:] for r in self.lines[at + j:at + j + 1]] != [right[:2] + right[3:]]"),
+    ("line records' columns not compared", LINE, "[r[:3] for r in self.lines[at + j:at + j + 1]] != [right[:3]]"),
+    ("missing line records allowed", LINE, "self.lines[at + j:at + j + 1] not in ([], [right])"),
+    ("line records in any order", LINE, "right not in self.lines"),
+    ("12 not tested", STRAY, "            pass\n"),
+    ("12 of the first piece", "if k > 0 and not 0 <= record[0]", "if not 0 <= record[0]"),
+    ("no 12 of the root's copy", "if k > 0 and not 0 <= record[0]", "if row != self.pieces[0][0] and not 0 <= record[0]"),
+    ("12 only past the function", "if k > 0 and not 0 <= record[0] - records[0][0] < self", "if k > 0 and not record[0] - records[0][0] < self"),
+    ("12 one too late", "record[0] - records[0][0] < self.source", "record[0] - records[0][0] <= self.source"),
+    ("12 placed by the piece", "                raise Refused(12, row, j)\n        for j, record in enumerate(records):\n            right", "                raise Refused(12, k, j)\n        for j, record in enumerate(records):\n            right"),
+    ("12 and 43 record by record", "                raise Refused(12, row, j)\n        for j, record in enumerate(records):\n            right", "                raise Refused(12, row, j)\n            right"),
+    ("12 before 42", RECORDS, "            for j, record in enumerate(self.source.line_records[row]):\n                if k > 0 and not 0 <= record[0] - self.source.line_records[row][0][0] < self.source.functions[row].slots:\n                    raise Refused(12, row, j)\n" + RECORDS),
+    ("line records before function records", RECORDS, "            self.check_line_records(k, row, start, lines)\n            self.check_func_records(k, row, start, funcs)\n"),
+    ("records before slots", PIECE, "        for k, (row, start) in enumerate(self.pieces):\n            self.check_func_records(k, row, start, funcs)\n            for slot in range(self.source.functions[row].slots):\n"),
+    ("all slots before all records", PIECE, "        for k, (row, start) in enumerate(self.pieces):\n            for slot in range(self.source.functions[row].slots):\n                self.check_slot(k, row, slot, start + slot)\n" + PIECE),
+    ("no limits", LONG, "            if False:\n"),
+    ("no limit of the image", LONG, "            if len(data) > size * most and table != 6:\n"),
+    ("no limit of function records", LONG, "            if len(data) > size * most and table != 7:\n"),
+    ("no limit of line records", LONG, "            if len(data) > size * most and table != 8:\n"),
+    ("no limit of the list", LONG, "            if len(data) > size * most and table != 9:\n"),
+    ("limits one too low", LONG, "            if len(data) >= size * most:\n"),
+    ("a partial row not counted", LONG, "            if len(data) // size > most:\n"),
+    ("a list no longer than table 3 and one", LONG, "            if len(data) > size * most or (table == 9 and len(data) > 8 * len(self.source.functions) + 8):\n"),
+    ("partial rows not told", PARTIAL, "            if False:\n"),
+    ("33 of all before 34", "        for table, size, most, data in zip((6, 7, 8, LIST)", "        for table, most, data in zip((6, 7, 8, 9), (32_768, 2_048, 65_536, 32_768), self.shown):\n            if len(data) > most:\n                raise Refused(33, table)\n        for table, size, most, data in zip((6, 7, 8, LIST)"),
+    ("34 before 33", LONG, "            if len(data) > size * most and len(data) % size == 0:\n"),
+    ("the list's size before the others", "zip((6, 7, 8, LIST), (8, 8, 16, PIECE_SIZE),", "zip((LIST, 6, 7, 8), (8, 8, 8, 16),", "(MOST_IMAGE_SLOTS, MOST_IMAGE_FUNCS, MOST_IMAGE_LINES, MOST_IMAGE_SLOTS),\n                                           self.shown):", "(4_096, 4_096, 256, 4_096), self.shown[3:] + self.shown[:3]):"),
+    ("the list before the other sizes", LIST, "if int.from_bytes(self.shown[3][:8], 'little') != root or len(self.shown[3]) < 8:\n            raise Refused(35)\n        " + LIST),
+    ("13 not tested", "        if root >= len(function_rows(tables[3])):\n            raise Refused(13)\n", ""),
+    ("tables not checked", "    # \"so do broken tables\": 1, 2 and 13, as the link says them\n    number, places = check_link(tables, root)\n", "    number, places = 0, (0, 0, 0)\n"),
+    ("tables checked last", "    if number != 0:\n        return number, places\n    source", "    if number != 0 and len(image) % 8 == 0 and pieces:\n        return number, places\n    source"),
+    ("yes counts slots", "        return len(self.pieces)\n", "        return len(self.image)\n"),
+    ("the list without the root", "words(pieces)", "words(pieces[1:])"),
+    ("the list by rows", "words(pieces)", "words(sorted(pieces))"),
+    ("the list has starts first", "words(pieces)", "words([piece[::-1] for piece in pieces])"),
+    ("32 after the link's own", "    if pieces_len < PIECE_SIZE * (len(functions) // ROW_SIZE[3] + 1):\n", "    if pieces_len < PIECE_SIZE * (len(functions) // ROW_SIZE[3] + 1) and check_link({1: code, 2: symbols, 3: functions, 4: relocations, 6: instructions, 7: func_info, 8: line_info}, root)[0] == 0:\n"),
+    ("32 without the root's copy", "(len(functions) // ROW_SIZE[3] + 1):", "len(functions) // ROW_SIZE[3]:"),
+    ("32 by the pieces that there are", "    if pieces_len < PIECE_SIZE * (len(functions) // ROW_SIZE[3] + 1):\n", "    if pieces_len < PIECE_SIZE * max(1, len(link_with(code, symbols, functions, relocations, instructions, func_info, line_info, root, image_len, func_len, line_len)[1])):\n"),
+]
+
+
 class ByAddress(dict):
     """Places functions by their address, and forgets the section."""
 
@@ -115,7 +237,8 @@ def cases(stream):
         yield header, parts
 
 
-def answer(model, header, parts):
+def answer(model, case):
+    header, parts = case
     kind, read = header[1], {3: "func", 4: "line", 5: "func", 6: "line"}
     code, symbols, functions, relocations, maps, instructions, funcs, lines, data = parts
     try:
@@ -132,11 +255,39 @@ def answer(model, header, parts):
         return repr(error)
 
 
+def examine_answer(model, case):
+    word, parts, (root, _, _, _, _, *rooms) = case
+    tables = [parts[t] for t in examine_form.TABLES]
+    try:
+        if word == "link":
+            return model.link_pieces(*tables, root, *rooms)
+        return model.examine(*tables, root, *(parts[p] for p in examine_form.SHOWN))
+    except (ArithmeticError, LookupError, MemoryError, RecursionError, ValueError) as error:
+        return repr(error)
+
+
 def edited(text, pairs):
     for old, new in zip(pairs[::2], pairs[1::2]):
         assert old in text, old
         text = text.replace(old, new)
     return load(text)
+
+
+def run(text, edits, all_cases, answer_of):
+    """How many edits change no answer."""
+    true_model, right, unseen = load(text), {}, 0
+    for name, *pairs in edits:
+        model, changed = edited(text, pairs), 0
+        for i, case in enumerate(all_cases):
+            if i not in right:
+                right[i] = answer_of(true_model, case)
+            changed += answer_of(model, case) != right[i]
+            if changed == ENOUGH:
+                break
+        unseen += changed == 0
+        print(f"{changed:4}  {name}", flush=True)
+    print(f"{len(edits)} edits, {unseen} unseen")
+    return unseen
 
 
 def main():
@@ -147,18 +298,12 @@ def main():
     with open(os.path.join(REPLAY, "stdin"), "rb") as file:
         all_cases = list(cases(file.read()))
     random.Random(1).shuffle(all_cases)
-    true_model, right, unseen = load(text), {}, 0
-    for name, *pairs in EDITS:
-        model, changed = edited(text, pairs), 0
-        for i, case in enumerate(all_cases):
-            if i not in right:
-                right[i] = answer(true_model, *case)
-            changed += answer(model, *case) != right[i]
-            if changed == ENOUGH:
-                break
-        unseen += changed == 0
-        print(f"{changed:4}  {name}", flush=True)
-    print(f"{len(EDITS)} edits, {unseen} unseen")
+    unseen = run(text, EDITS, all_cases, answer)
+    all_cases = list(examine_form.replay(examine_form.STORED))
+    random.Random(1).shuffle(all_cases)
+    # the large ones last: often they are not needed
+    all_cases.sort(key=lambda case: len(case[1]["i"]) > 4_096)
+    unseen += run(text, EXAMINE_EDITS, all_cases, examine_answer)
     sys.exit(unseen != 0)
 
 

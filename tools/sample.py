@@ -1,8 +1,10 @@
 """The sample objects that bark is shown on: a logger for the key device, and the same logger forged.
 
 python3 tools/sample.py   writes examples/logger.tables and examples/forged.tables; by the independent model (tools/bark_model.py)
-                          tests/logger.image; for the gate's run crates/bark/data and stdout; and tests/bark, files that bark
-                          must turn down, which tests/bark.sh runs
+                          tests/logger.image and logger.pieces; by another linker (tools/elsewhere.py) an image of the logger
+                          with its list, and the same image forged: examples/elsewhere.* and diverted.image; for the gate's
+                          run crates/bark/data and stdout; and tests/bark, files that bark must turn down and an image
+                          breadth-first, which tests/bark.sh runs
 
 A tables file has eight u32 lengths, then the tables 1 to 8. The logger, as its source would read:
 
@@ -19,7 +21,8 @@ import os
 import sys
 
 sys.path.insert(0, os.path.dirname(os.path.abspath(__file__)))
-from bark_model import expected, tables_file  # noqa: E402
+import elsewhere  # noqa: E402
+from bark_model import expected, image_file, mapped, tables_file  # noqa: E402
 from objects import (OTHER, SECTION, TEXT, EXIT, Tables, call, code, func_record, function, insn,  # noqa: E402
                      line_record, map_row, relocation, symbol, u32, wide)
 
@@ -114,6 +117,34 @@ def forged():
     return o
 
 
+def calls_first():
+    """log_key_open calls append_entry first, and check_caller last: depth-first and breadth-first then differ."""
+    o = logger()
+    o.put(4, 1, 4, u32(APPEND_SYMBOL))
+    o.put(4, 3, 4, u32(TEXT_SYMBOL))
+    return o
+
+
+def shown(o, others, choose):
+    """What another linker makes of an object, in this order: the runs, and the list."""
+    image = elsewhere.Source(mapped(o)[2]).image(ROOT, others, choose)
+    parts = image.parts()
+    return [parts["i"], parts["f"], parts["l"]], parts["p"]
+
+
+# append_entry, seal_entry, check_caller, on_entry, check_caller again: the call goes to the second
+ORDER = [1, 2, 0, 3, 0]
+
+
+def diverted(runs, pieces):
+    """append_entry calls on_entry where it should call seal_entry: a function's start, but not of the right one."""
+    start = {int.from_bytes(pieces[at:at + 4], "little"): int.from_bytes(pieces[at + 4:at + 8], "little")
+             for at in range(0, len(pieces), 8)}
+    here = start[1] + 8
+    image = runs[0][:8 * here + 4] + u32(start[3] - here - 1) + runs[0][8 * here + 8:]
+    return [image] + runs[1:]
+
+
 def put(path, data):
     with open(path, "wb") as f:
         f.write(data)
@@ -144,6 +175,15 @@ def cases(folder):
     stray = logger()
     stray.put(8, 4, 0, u32(11))
     put(os.path.join(folder, "refused-12"), tables_file(stray))
+    # table 8 is a record shorter than table 3 says: the map step does not look at it
+    fewer = logger()
+    fewer.rows[8].pop()
+    put(os.path.join(folder, "refused-2-lines"), tables_file(fewer))
+    put(os.path.join(folder, "deep"), tables_file(calls_first()))
+    near = elsewhere.Source(mapped(calls_first())[2]).breadth_first(ROOT)
+    runs, pieces = shown(calls_first(), near, elsewhere.first_piece)
+    put(os.path.join(folder, "breadth.image"), image_file(runs))
+    put(os.path.join(folder, "breadth.pieces"), pieces)
 
 
 def main():
@@ -151,8 +191,13 @@ def main():
     put(os.path.join(here, "examples", "logger.tables"), tables_file(logger()))
     put(os.path.join(here, "examples", "forged.tables"), tables_file(forged()))
     put(os.path.join(here, "crates", "bark", "data", "logger.tables"), tables_file(logger()))
-    _, said, image = expected(logger(), ROOT)
+    _, said, image, pieces = expected(logger(), ROOT)
     put(os.path.join(here, "tests", "logger.image"), image)
+    put(os.path.join(here, "tests", "logger.pieces"), pieces)
+    runs, pieces = shown(logger(), ORDER, elsewhere.last_piece)
+    put(os.path.join(here, "examples", "elsewhere.image"), image_file(runs))
+    put(os.path.join(here, "examples", "elsewhere.pieces"), pieces)
+    put(os.path.join(here, "examples", "diverted.image"), image_file(diverted(runs, pieces)))
     put(os.path.join(here, "crates", "bark", "stdout"), said.encode())
     cases(os.path.join(here, "tests", "bark"))
 

@@ -17,6 +17,14 @@ pub fn refusal(cause: Cause, first: u32, second: u32) -> Refusal
     Refusal { cause, places }
 }
 
+// A cause with all three.
+pub fn finding(cause: Cause, first: u32, second: u32, third: u32) -> Refusal
+    ensures { λ r. ⌜ refusedReply r ≡ reply (numberOf cause) first second third ⌝ }
+{
+    let places = Places(first, second, third);
+    Refusal { cause, places }
+}
+
 pub fn number_of(cause: Cause) -> u32
     ensures { λ r. ⌜ r ≡ numberOf cause ⌝ }
 {
@@ -35,6 +43,19 @@ pub fn number_of(cause: Cause) -> u32
         Cause::LineOutside => 12,
         Cause::NoRoot => 13,
         Cause::BrokenInfo => 14,
+        Cause::NoListRoom => 32,
+        Cause::ShownTooLong => 33,
+        Cause::ShownPartial => 34,
+        Cause::RootNotFirst => 35,
+        Cause::NoSuchFunction => 36,
+        Cause::NotTiled => 37,
+        Cause::EndsElsewhere => 38,
+        Cause::SlotChanged => 39,
+        Cause::NotReference => 40,
+        Cause::WrongTarget => 41,
+        Cause::FuncInfoDiffers => 42,
+        Cause::LineInfoDiffers => 43,
+        Cause::RecordsOver => 44,
     }
 }
 

@@ -11,13 +11,14 @@ use Rattle.rules.specs.declared.Answer.{Answer}
 use Rattle.rules.specs.declared.Table.{Table}
 use Rattle.rules.specs.Bytes.{little}
 use Rattle.rules.specs.Answers.{Reply, reply, replyOf, placesIn}
-use Rattle.rules.specs.Entries.{MapResult, LinkResult}
+use Rattle.rules.specs.Entries.{MapResult, LinkResult, PiecesResult}
 use Rattle.rules.specs.Readers.{Info, readRecords, hasRecord, recordPart, recordReply}
 use Rattle.info.specs.Promises.{ReadAs}
 use Rattle.rules.specs.Lent.{Buffers}
-use Rattle.linker.specs.Linker.{Outcomes}
+use Rattle.linker.specs.declared.Listed.{Listed}
+use Rattle.linker.specs.Linker.{Outcomes, ListedOutcomes}
 use Rattle.answers.specs.Told.{Told}
-use Rattle.barkruffle.specs.Promises.{LinkTold, MapTold, ReadTold, Placed, Stands}
+use Rattle.barkruffle.specs.Promises.{LinkTold, ListTold, MapTold, ReadTold, Placed, Stands}
 
 -- three numbers written are the reply's places
 pub told : {before after three : List ℕ} {r : ℕ} {x : Reply}
@@ -33,6 +34,10 @@ told-as {before = before} e t = record {
 pub link-told : {before after : List ℕ} {r : ℕ} {b : Buffers} {a : Answer} {link : LinkResult}
     → Outcomes b a link → Told before after r (replyOf a) → LinkTold before after b r link
 link-told h t = record { told = told-as (h .reply) t; image = h .image; funcs = h .funcs; lines = h .lines }
+
+pub list-told : {before after list : List ℕ} {r : ℕ} {b : Buffers} {a : Listed} {entry : PiecesResult}
+    → ListedOutcomes b list a entry → Told before after r (replyOf (a .answer)) → ListTold before after b list r entry
+list-told h t = record { link = link-told (h .outcomes) t; pieces = h .pieces }
 
 pub map-told : {before after table6 : List ℕ} {r : ℕ} {x : Reply} {map : MapResult}
     → x ≡ map .reply → table6 ≡ map .instructions → Told before after r x → MapTold before after table6 r map

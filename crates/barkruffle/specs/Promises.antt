@@ -7,7 +7,7 @@ use Prim.Native.Nat.{ℕ, _*_}
 use lib.ListN.{take, drop}
 use Rattle.rules.specs.declared.Table.{Table}
 use Rattle.rules.specs.Bytes.{little}
-use Rattle.rules.specs.Entries.{MapResult, LinkResult}
+use Rattle.rules.specs.Entries.{MapResult, LinkResult, PiecesResult}
 use Rattle.rules.specs.Readers.{Info, Read, hasRecord, recordPart}
 use Rattle.rules.specs.Lent.{Buffers}
 use Rattle.answers.specs.Told.{Told}
@@ -17,6 +17,11 @@ pub record LinkTold (before after : List ℕ) (b : Buffers) (result : ℕ) (link
   pub image : b .image ≡ link .image
   pub funcs : b .funcs ≡ link .funcInfo
   pub lines : b .lines ≡ link .lineInfo
+
+-- the list's buffer too
+pub record ListTold (before after : List ℕ) (b : Buffers) (list : List ℕ) (result : ℕ) (entry : PiecesResult) : Type 0 where
+  pub link : LinkTold before after b result (entry .link)
+  pub pieces : list ≡ entry .pieces
 
 pub record MapTold (before after table6 : List ℕ) (result : ℕ) (map : MapResult) : Type 0 where
   pub told : Told before after result (map .reply)

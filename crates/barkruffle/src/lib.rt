@@ -1,11 +1,13 @@
 // The entries that C calls: each hands over to the crate that decides, and tells its answer as document 01's numbers.
 use answers::number;
 use answers::tell;
+use examine::examine;
 use info::func_info;
 use info::func_info_record_number;
 use info::line_info;
 use info::line_info_record_number;
 use linker::link;
+use linker::link_pieces;
 use maps::relocate_maps;
 use rules::Answer;
 use rules::Found;
@@ -23,13 +25,14 @@ ghost use Rattle.rules.specs.Bytes.{little};
 ghost use Rattle.rules.specs.Answers.{replyOf};
 ghost use Rattle.rules.specs.Rows.{rowSize};
 ghost use Rattle.rules.specs.Lookups.{symbolWith};
-ghost use Rattle.rules.specs.Lent.{was, lent, lentMaps, outputs, lentOutputs, lentBy};
-ghost use Rattle.rules.specs.Entries.{linkEntry, mapEntry};
+ghost use Rattle.rules.specs.Lent.{was, lent, lentMaps, lentShown, outputs, lentOutputs, lentBy};
+ghost use Rattle.rules.specs.Entries.{linkEntry, linkPiecesEntry, mapEntry};
+ghost use Rattle.rules.specs.Examine.{examineEntry};
 ghost use Rattle.rules.specs.Readers.{readRecords, recordReply};
 ghost use Rattle.answers.specs.Told.{Told};
 ghost use Rattle.info.specs.Promises.{given};
 ghost use Rattle.symbols.specs.Symbols.{bytesOf};
-ghost use Rattle.barkruffle.specs.Promises.{LinkTold, MapTold, ReadTold, Placed, Stands};
+ghost use Rattle.barkruffle.specs.Promises.{LinkTold, ListTold, MapTold, ReadTold, Placed, Stands};
 ghost use Rattle.barkruffle.specs.LentRows.{lentWith, numberFound, RowTold};
 
 // Rewrites table 6 in place, only once nothing is refused.
@@ -95,6 +98,100 @@ pub extern "C" fn barkruffle_link(
         image_func_info,
         image_line_info,
         root,
+    );
+    tell(a, places)
+}
+
+// The link with its list of pieces, in order of placing: rows of a function's row and its start.
+#[no_mangle]
+pub extern "C" fn barkruffle_link_pieces(
+    code: &[u8],
+    symbols: &[u8],
+    functions: &[u8],
+    relocations: &[u8],
+    instructions: &[u8],
+    func_info: &[u8],
+    line_info: &[u8],
+    root: u32,
+    image: &mut [u8],
+    image_func_info: &mut [u8],
+    image_line_info: &mut [u8],
+    pieces: &mut [u8],
+    places: &mut [u8],
+) -> u32
+    ensures { λ r. ⌜ ListTold
+        (was places)
+        (now (places .exit))
+        (outputs (image .exit) («image_func_info» .exit) («image_line_info» .exit))
+        (now (pieces .exit))
+        r
+        (linkPiecesEntry
+        little
+        (lent code symbols functions relocations instructions «func_info» «line_info»)
+        root
+        (lentBy (lentOutputs image «image_func_info» «image_line_info»))
+        (length (was pieces)))
+        ⌝ }
+{
+    let listed = link_pieces(
+        code,
+        symbols,
+        functions,
+        relocations,
+        instructions,
+        func_info,
+        line_info,
+        image,
+        image_func_info,
+        image_line_info,
+        pieces,
+        root,
+    );
+    let a = listed.answer;
+    tell(a, places)
+}
+
+// Examines an image from elsewhere, with its records and its list of pieces.
+#[no_mangle]
+pub extern "C" fn barkruffle_examine(
+    code: &[u8],
+    symbols: &[u8],
+    functions: &[u8],
+    relocations: &[u8],
+    instructions: &[u8],
+    func_info: &[u8],
+    line_info: &[u8],
+    root: u32,
+    image: &[u8],
+    image_func_info: &[u8],
+    image_line_info: &[u8],
+    pieces: &[u8],
+    places: &mut [u8],
+) -> u32
+    ensures { λ r. ⌜ Told
+        (was places)
+        (now (places .exit))
+        r
+        (examineEntry
+        little
+        (lent code symbols functions relocations instructions «func_info» «line_info»)
+        root
+        (lentShown image «image_func_info» «image_line_info» pieces))
+        ⌝ }
+{
+    let a = examine(
+        code,
+        symbols,
+        functions,
+        relocations,
+        instructions,
+        func_info,
+        line_info,
+        root,
+        image,
+        image_func_info,
+        image_line_info,
+        pieces,
     );
     tell(a, places)
 }

@@ -1,2 +1,3 @@
 pub mod Offers
-pub mod Marked
+pub mod Lists
+pub mod Column

@@ -6,6 +6,8 @@ use Prim.Native.Nat.{ℕ}
 use Rattle.maps.specs.Passes.{Relocated}
 use Rattle.rules.specs.declared.Answer.{Answer}
 use Rattle.rules.specs.Bytes.{little}
+use Rattle.rules.specs.Answers.{Reply}
+use Rattle.rules.specs.Examine.{Shown, examineEntry}
 use Rattle.rules.specs.Rows.{Offered, mapStepOffer, linkOffer}
 use Rattle.rules.specs.Entries.{Outputs, linkEntry, mapEntry}
 use Rattle.rules.specs.Lent.{Buffers}
@@ -38,3 +40,6 @@ same-map-offer {a} {b} {c} {d} {e} {a′} {b′} {c′} {d′} {e′} i p q r s 
 pub relocated-held : (before : List ℕ) (r : Answer) (after : List ℕ) {a b c d e a′ b′ c′ d′ e′ : List ℕ} → a ≡ a′ → b ≡ b′ → c ≡ c′ → d ≡ d′ → e ≡ e′
     → Relocated (mapEntry little (mapStepOffer a b c d e before)) r after → Relocated (mapEntry little (mapStepOffer a′ b′ c′ d′ e′ before)) r after
 relocated-held before r after p q s t u h = subst (λ (o : Offered). Relocated (mapEntry little o) r after) (same-map-offer before p q s t u) h
+
+pub examined-held : (x : Reply) (root : ℕ) (s : Shown) {o o′ : Offered} → o ≡ o′ → x ≡ examineEntry little o root s → x ≡ examineEntry little o′ root s
+examined-held x root s e h = h ∙ ap (λ (o : Offered). examineEntry little o root s) e

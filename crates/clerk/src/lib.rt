@@ -1,5 +1,6 @@
-// The work on a tables file: it is read, both steps are done over it as it is held, an image file is written, sentences and the listing are
-// written out; and the exit status.
+// The work on the tool's files: tables, an image and its pieces are read, the steps and the examination are done over the tables as they are
+// held, an image and its pieces are written, sentences and the listing are written out; and the exit status.
+pub mod files;
 pub mod listing;
 pub mod reading;
 pub mod status;

@@ -25,7 +25,7 @@ fn rows(own: usize, pieces: &[u8], image: &[u8], lines: &[u8]) -> bool
     true
 }
 
-// `own` is the number of the root's line records; `pieces` are the copies' starts and rows.
+// `own` is the number of the root's line records; `pieces` is the list that the link gave.
 pub fn list(own: usize, pieces: &[u8], image: &[u8], lines: &[u8]) -> u32
     requires { ⌜ length (now image) ≤ ownMost ⌝ }
     ensures { λ r. ⌜ (r ≤ 4) × (either 0 4 r ≡ true) ⌝ }

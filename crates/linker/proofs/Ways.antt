@@ -1,15 +1,14 @@
 -- The ways out of link_function and relocate, over what their callees promise.
 -- Assumes nothing.
-use mathlib.Core.Path.{_≡_, refl, sym, ap, subst, _∙_}
-use mathlib.Core.Logic.{_≢_, ⊎-elim}
-use mathlib.Core.Bool.{Bool, true, false, cond, not, _&&_}
-use mathlib.Core.Option.{Option, none, some}
-use mathlib.Core.List.{List, [], _∷_}
-use Prim.Native.Nat.{ℕ, zero, suc, _+_, _-_, _*_, _≤_, _<_}
+use mathlib.Core.Path.{_≡_, sym, ap, subst, _∙_}
+use mathlib.Core.Logic.{⊎-elim}
+use mathlib.Core.Bool.{Bool, true, false, _&&_}
+use mathlib.Core.Option.{none, some}
+use mathlib.Core.List.{List}
+use Prim.Native.Nat.{ℕ, _+_, _*_, _≤_, _<_}
 use native.Mathlib.Omega.{arith}
 use native.Mathlib.Nat.{eq-or-lt-of-le}
-use borrow.Author.Tests.{not-true, not-false}
-use lib.Dec.{eqb, leb, ltb}
+use lib.Dec.{eqb}
 use lib.ListN.{length, getD, set}
 use Rattle.rules.specs.declared.Refusal as told
 use Rattle.rules.specs.declared.Cause.the-variants.{NoRoom, LineOutside}
@@ -17,20 +16,19 @@ use Rattle.rules.specs.declared.Judgement.the-variants as judgement
 use Rattle.rules.specs.declared.Found.{Found}
 use Rattle.rules.specs.declared.Found.the-variants.{At, Nothing}
 use Rattle.rules.specs.declared.Table.the-variants.{Functions, Relocations, LineInfo}
-use Rattle.rules.specs.Object.{Meaning, copied, call, reference, refused, meaning}
+use Rattle.rules.specs.Object.{Meaning, meaning}
 use Rattle.rules.specs.Bytes.{little}
 use Rattle.rules.specs.Link.{refusal}
-use Rattle.rules.specs.Tables.{LineRecord, objectOf}
-use Rattle.rules.specs.Records.{firstSlot, stray}
+use Rattle.rules.specs.Tables.{objectOf}
 use Rattle.rules.specs.Answers.{reply, numberOf, refusedReply}
-use Rattle.rules.specs.Rows.{rowSize, mostRows, mostAddress, mostImageSlots, mostFunctionSlots, wholeRows, below, summed, Offered, tablesOf, lineInfoRow, functionLineInfo, functionSlots, functionSection, functionOffset, relocationSection, relocationOffset}
+use Rattle.rules.specs.Rows.{rowSize, mostRows, mostAddress, mostImageSlots, mostFunctionSlots, wholeRows, below, summed, Offered, tablesOf, functionSlots, functionSection, functionOffset, relocationSection, relocationOffset}
 use Rattle.rules.specs.Lookups.{foundOf, relocationWith, relocationsBefore, LinkChecked}
-use Rattle.rules.proofs.Linking.{length-run}
 use Rattle.rules.proofs.Passed.{whole, few-rows, good-function}
 use Rattle.merge.specs.declared.Used.{Used}
-use Rattle.merge.specs.Merge.{lineRows, strayIn, Sums, Parts, Lined, PartBegins, roomBytes, Extends, Extended}
+use Rattle.merge.specs.Merge.{strayIn, Sums, Parts, Lined, PartBegins, roomBytes, Extends, Extended}
 use Rattle.merge.proofs.Rooms.{sums}
 use Rattle.merge.proofs.Checked.{checked-parts, lined}
+use Rattle.merge.proofs.Strays.{stray-low}
 use Rattle.resolve.specs.Means.{Means}
 use Rattle.resolve.specs.Resolves.{Resolves}
 use Rattle.resolve.specs.declared.Meaning as judged
@@ -38,12 +36,12 @@ use Rattle.resolve.specs.declared.Meaning.the-variants.{Copied, Points, Refused
 use Rattle.resolve.proofs.Laws.{onlyCode, meaning-alike, checked-alike, points-inside}
 use Rattle.linker.specs.declared.State.{State}
 use Rattle.linker.specs.declared.Step.{Step}
-use Rattle.rules.specs.Lent.{Buffers, buffers, lentBy, partsOffer}
+use Rattle.rules.specs.Lent.{Buffers, buffers, partsOffer}
 use Rattle.linker.specs.Linker.{unplaced, Asks, Adds, Added, Passed, Placed, Visits, Visited, pointedTo}
-use Rattle.linker.proofs.Extending.{stateMore, buffersMore, usedMore}
+use Rattle.linker.proofs.Extending.{stateMore, buffersMore}
 use Rattle.linker.proofs.Admitting.{room-of, no-room, strays, admitted}
-use Rattle.linker.proofs.Cursor.{Behind, behind-on, behind-first, behind-more, at-end, at-row, at-later}
-use Rattle.linker.proofs.Steps.{Inv, add-refused, add-visits, add-falls, add-done, in-array, visit-begins, visit-falls, visit-done, visit-copied, visit-out, visit-asks, visit-refused, visit-pointed, to-low, room-here, still-in}
+use Rattle.rows.proofs.Cursor.{Behind, behind-on, behind-first, behind-more, at-end, at-row, at-later}
+use Rattle.linker.proofs.Steps.{Inv, add-refused, add-visits, add-falls, add-done, visit-begins, visit-copied, visit-out, visit-asks, visit-refused, visit-pointed, to-low, room-here, still-in}
 
 -- a row of a checked table 3
 pub row-inside : {o : Offered} (checked : LinkChecked o) {row : ℕ} → row < wholeRows Functions (o .functions) → rowSize Functions * row + rowSize Functions ≤ length (o .functions)
@@ -71,28 +69,13 @@ over-of e l = omega arith
 pub at-is : {offset n slot at place : ℕ} → offset ≡ n → at ≡ slot → place ≡ offset + 8 * at → place ≡ n + 8 * slot
 at-is e₁ e₂ e₃ = omega arith
 
-stray-below : (slots origin from k : ℕ) (ls : List LineRecord) → stray slots origin from ls ≡ some k → k < from + length ls
-stray-below slots origin from k [] e = let z : _≡_ {A = ℕ} 0 1 = cc in absurd (omega arith)
-stray-below slots origin from k (l ∷ ls) e = go (leb origin (l .slot) && ltb (l .slot - origin) slots) e (λ rest. stray-below slots origin (suc from) k ls rest)
-  where
-    go : (b : Bool) → cond b (stray slots origin (suc from) ls) (some from) ≡ some k → (stray slots origin (suc from) ls ≡ some k → k < suc from + length ls) → k < from + suc (length ls)
-    go true e later = omega (arith, later e)
-    go false e later = let same : from ≡ k = cc in omega arith
-
 -- ---- link_function
 module _ {o : Offered} {st : State} {b : Buffers} {row : ℕ} (pre : Adds o st b row) where
   parts : Parts o row
   parts = checked-parts o row (pre .asks .checked) (pre .asks .row-in)
 
   pub stray-small : (k : ℕ) → strayIn (o .functions) (o .lineInfo) row ≡ some k → k < mostRows LineInfo
-  stray-small k e =
-      omega (
-        arith,
-        stray-below (functionSlots (o .functions) row) (firstSlot (lineRows (o .functions) (o .lineInfo) row)) 0 k (lineRows (o .functions) (o .lineInfo) row) e,
-        length-run (lineInfoRow little (o .lineInfo)) (summed (functionLineInfo (o .functions)) 0 row) (functionLineInfo (o .functions) row),
-        parts .lines-inside,
-        parts .few-lines,
-      )
+  stray-small k e = omega (arith, stray-low (o .functions) (o .lineInfo) row k e, parts .lines-inside, parts .few-lines)
 
   pub add-lined : (part : Used) → PartBegins (o .functions) row part → Lined (o .functions) (o .lineInfo) row (part .lines)
   add-lined part begins = lined o row part parts begins

@@ -34,9 +34,10 @@ use Rattle.rules.proofs.Passed.{good-function}
 use Rattle.rules.proofs.Merging.{func-bytes-length, line-bytes-length}
 use Rattle.linker.specs.declared.State.{State}
 use Rattle.linker.specs.declared.Step.{Step}
+use Rattle.linker.specs.declared.Linked.{Linked}
 use Rattle.merge.specs.declared.Used.{Used}
 use Rattle.rules.specs.Lent.{Buffers, buffers, lentBy, partsOffer}
-use Rattle.linker.specs.Linker.{startNumber, Valid, Holds, Passed, Agrees, adding, visiting, Asks, Gives, Visits, Visited, Starts, Outcomes, Ended, stepResult}
+use Rattle.linker.specs.Linker.{startNumber, Valid, Holds, Passed, Agrees, adding, visiting, Asks, Gives, Visits, Visited, Starts, Outcomes, Accounts, Ended, stepResult, StartedOutcomes}
 use Rattle.merge.specs.Merge.{slotBytes, funcRows, lineRows, roomBytes, PartBegins, unused, Begins, Begun}
 use Rattle.merge.proofs.Checked.{checked-parts}
 use Rattle.linker.proofs.Extending.{slots-inside, funcs-inside, lines-inside, slots-long, slots-are, own-functions, own-lines, object-slots, rest-next, Room}
@@ -179,6 +180,12 @@ some-not-none e = let z : _≡_ {A = ℕ} 0 1 = cc in absurd (omega arith)
 some-same : {x y : Reply} → some x ≡ some y → x ≡ y
 some-same e = cc
 
+refuses-not-linked : {why : Refusal} {s : Link.State} {X : Type 0} → refuses why ≡ linked s → X
+refuses-not-linked e = let z : _≡_ {A = ℕ} 0 1 = cc in absurd (omega arith)
+
+abbrev answers : Answer → List ℕ → Linked
+answers a starts = record { answer = a; starts = starts }
+
 module _ {o : Offered} {root : ℕ} {b : Buffers} (pre : Starts o root b) where
   zeroes : Zeroed b
   zeroes = (pre .image, pre .funcs, pre .lines)
@@ -192,11 +199,12 @@ module _ {o : Offered} {root : ℕ} {b : Buffers} (pre : Starts o root b) where
 
   -- 11: the root has no room
   pub root-refused : roomBytes (o .functions) (length (b .image)) (length (b .funcs)) (length (b .lines)) unused root ≡ false
-      → (r : told.Refusal) → refusedReply r ≡ reply (numberOf NoRoom) root 0 0 → Ended o root b b (Refused r)
+      → (r : told.Refusal) → refusedReply r ≡ reply (numberOf NoRoom) root 0 0 → {starts : List ℕ} → Ended o root b b (answers (Refused r) starts)
   root-refused e r is = record {
     lengths = refl;
     done = λ z. absurd (Replies.refuses r z);
     refused = λ n. ap (byOutcome little (tablesOf little o) root (lentBy b)) (step-by (some (refusal 11 root 0)) (room-fails (pre .checked) root (pre .root-in) (lentBy b) unused e)) ∙ ap (refusedLink (lentBy b)) (sym is);
+    accounts = λ s f. refuses-not-linked (sym (step-by (some (refusal 11 root 0)) (room-fails (pre .checked) root (pre .root-in) (lentBy b) unused e)) ∙ f);
   }
 
   module _ (enough : roomBytes (o .functions) (length (b .image)) (length (b .funcs)) (length (b .lines)) unused root ≡ true) where
@@ -219,8 +227,17 @@ module _ {o : Offered} {root : ℕ} {b : Buffers} (pre : Starts o root b) where
       pub all-lengths : lentBy b′ ≡ lentBy b
       all-lengths = v .lengths ∙ lens
 
-      pub link-refused : (why : told.Refusal) → refusalIn (r .judged) ≡ some (refusedReply why) → Ended o root b b′ (Refused why)
-      link-refused why bad = record { lengths = all-lengths; done = λ z. absurd (Replies.refuses why z); refused = λ n. go (linkStep (tablesOf little o) (roomIn (lentBy b)) root) visited }
+      -- the state that it ends in
+      ending : (s : Link.State) → linkStep (tablesOf little o) (roomIn (lentBy b)) root ≡ linked s → Agrees o root r b′ (linked s)
+      ending s e = subst (Agrees o root r b′) e visited
+
+      pub link-refused : (why : told.Refusal) → refusalIn (r .judged) ≡ some (refusedReply why) → {starts : List ℕ} → Ended o root b b′ (answers (Refused why) starts)
+      link-refused why bad = record {
+        lengths = all-lengths;
+        done = λ z. absurd (Replies.refuses why z);
+        refused = λ n. go (linkStep (tablesOf little o) (roomIn (lentBy b)) root) visited;
+        accounts = λ s e. some-not-none (sym bad ∙ ending s e .0);
+      }
         where
           go : (out : Outcome) → Agrees o root r b′ out → byOutcome little (tablesOf little o) root (lentBy b) out ≡ refusedLink (lentBy b) (refusedReply why)
           go (linked s) (e, h) = some-not-none (sym bad ∙ e)
@@ -231,8 +248,16 @@ module _ {o : Offered} {root : ℕ} {b : Buffers} (pre : Starts o root b) where
         abbrev ends : Answer
         ends = Done (record { 0 = r .state .used .slots; 1 = r .state .used .funcs; 2 = r .state .used .lines })
 
-        pub link-done : Ended o root b b′ (Done (record { 0 = r .state .used .slots; 1 = r .state .used .funcs; 2 = r .state .used .lines }))
-        link-done = record { lengths = all-lengths; done = λ z. go (linkStep (tablesOf little o) (roomIn (lentBy b)) root) visited; refused = λ n. absurd (n refl) }
+        accounted : (s : Link.State) → Agrees o root r b′ (linked s) → Accounts o s (r .state .starts)
+        accounted s (e, h) = record { starts-are = h .starts; few = omega (arith, h .slots, v .valid ok .most) }
+
+        pub link-done : Ended o root b b′ (answers (Done (record { 0 = r .state .used .slots; 1 = r .state .used .funcs; 2 = r .state .used .lines })) (r .state .starts))
+        link-done = record {
+          lengths = all-lengths;
+          done = λ z. go (linkStep (tablesOf little o) (roomIn (lentBy b)) root) visited;
+          refused = λ n. absurd (n refl);
+          accounts = λ s e. accounted s (ending s e);
+        }
           where
             go : (out : Outcome) → Agrees o root r b′ out
                 → Outcomes b′ ends (byOutcome little (tablesOf little o) root (lentBy b) out)
@@ -246,12 +271,12 @@ module _ {o : Offered} {root : ℕ} {b : Buffers} (pre : Starts o root b) where
             go unfinished a = absurd a
 
 -- ---- with the check before it and the wiping after
-zeros-padded : (n : ℕ) → replicate n 0 ≡ padded n []
+pub zeros-padded : (n : ℕ) → replicate n 0 ≡ padded n []
 unfolding padded
 zeros-padded n = let e : n ≡ n - 0 = omega arith in ap (λ m. replicate m 0) e
 
 module _ (o : Offered) (root : ℕ) (b b′ : Buffers) (zi : b′ .image ≡ replicate (length (b .image)) 0) (zf : b′ .funcs ≡ replicate (length (b .funcs)) 0) (zl : b′ .lines ≡ replicate (length (b .lines)) 0) where
-  wiped : (r : Reply) (a : Answer) → replyOf a ≡ r → Outcomes b′ a (refusedLink (lentBy b) r)
+  pub wiped : (r : Reply) (a : Answer) → replyOf a ≡ r → Outcomes b′ a (refusedLink (lentBy b) r)
   wiped r a e = record {
     reply = e;
     image = zi ∙ zeros-padded (length (b .image));
@@ -309,10 +334,11 @@ module _ {o : Offered} {root : ℕ} {b : Buffers} (pre : Starts o root b) (enoug
       back = subst (λ y. Visited o (firstState o root) y root 0 r b′) (sym buffers-are) (subst (λ y. Visited o y (buffers i f l) root 0 r b′) (sym state-is)
           (subst (λ n. Visited o (record { starts = noStarts; used = u }) (buffers i f l) root n r b′) at v))
 
-      pub begun-refused : (why : told.Refusal) → refusalIn (r .judged) ≡ some (refusedReply why) → Ended o root b b′ (Refused why)
+      pub begun-refused : (why : told.Refusal) → refusalIn (r .judged) ≡ some (refusedReply why) → {starts : List ℕ} → Ended o root b b′ (answers (Refused why) starts)
       begun-refused why e = link-refused pre enough r b′ back why e
 
-      pub begun-done : Passed r → AreBytes (b′ .image) → Ended o root b b′ (Done (record { 0 = r .state .used .slots; 1 = r .state .used .funcs; 2 = r .state .used .lines }))
+      pub begun-done : Passed r → AreBytes (b′ .image)
+          → Ended o root b b′ (answers (Done (record { 0 = r .state .used .slots; 1 = r .state .used .funcs; 2 = r .state .used .lines })) (r .state .starts))
       begun-done ok are = link-done pre enough r b′ back ok are
 
 pub answer-refused : {a : Answer} {why : told.Refusal} → a ≡ Refused why → replyOf a .number ≡ 0 → ⊥
@@ -326,8 +352,12 @@ zero-again : (n : ℕ) (d : List ℕ) → d ≡ replicate n 0 → d ≡ replicat
 zero-again n d e = e ∙ ap (λ m. replicate m 0) (sym (again n d e))
 
 module _ (o : Offered) (root : ℕ) (b : Buffers) {i f l : List ℕ} (zi : i ≡ replicate (length (b .image)) 0) (zf : f ≡ replicate (length (b .funcs)) 0) (zl : l ≡ replicate (length (b .lines)) 0) where
-  pub entry-refused : (why : told.Refusal) → some (refusedReply why) ≡ linkRefusal o root → Outcomes (buffers i f l) (Refused why) (linkEntry little o root (lentBy b))
-  entry-refused why said = check-refused o root b (buffers i f l) zi zf zl (Refused why) (sym said)
+  pub entry-refused : (why : told.Refusal) → some (refusedReply why) ≡ linkRefusal o root → {starts : List ℕ}
+      → StartedOutcomes o root (lentBy b) (buffers i f l) (answers (Refused why) starts)
+  entry-refused why said = record {
+    outcomes = check-refused o root b (buffers i f l) zi zf zl (Refused why) (sym said);
+    accounts = λ passed s e. some-not-none (said ∙ passed);
+  }
 
   module _ (passed : linkRefusal o root ≡ none) where
     pub entry-starts : Starts o root (buffers i f l)
@@ -342,18 +372,28 @@ module _ (o : Offered) (root : ℕ) (b : Buffers) {i f l : List ℕ} (zi : i ≡
     same-lent : lentBy (buffers i f l) ≡ lentBy b
     same-lent = rw (again (length (b .image)) i zi, again (length (b .funcs)) f zf, again (length (b .lines)) l zl)
 
-    module _ {i′ f′ l′ : List ℕ} (a′ : Answer) (ended : Ended o root (buffers i f l) (buffers i′ f′ l′) a′) where
+    module _ {i′ f′ l′ : List ℕ} (r′ : Linked) (ended : Ended o root (buffers i f l) (buffers i′ f′ l′) r′) where
       kept : lentBy (buffers i′ f′ l′) ≡ lentBy b
       kept = ended .lengths ∙ same-lent
 
-      pub entry-done : replyOf a′ .number ≡ 0 → Outcomes (buffers i′ f′ l′) a′ (linkEntry little o root (lentBy b))
-      entry-done z = step-done o root b (buffers i′ f′ l′) a′ passed (subst (λ lent. Outcomes (buffers i′ f′ l′) a′ (stepResult o root lent)) same-lent (ended .done z))
+      accounts-kept : (s : Link.State) → linkStep (tablesOf little o) (roomIn (lentBy b)) root ≡ linked s → Accounts o s (r′ .starts)
+      accounts-kept s e = ended .accounts s (subst (λ lent. linkStep (tablesOf little o) (roomIn lent) root ≡ linked s) (sym same-lent) e)
 
-      pub entry-wiped : {i″ f″ l″ : List ℕ} → (replyOf a′ .number ≡ 0 → ⊥) → i″ ≡ replicate (length i′) 0 → f″ ≡ replicate (length f′) 0 → l″ ≡ replicate (length l′) 0
-          → Outcomes (buffers i″ f″ l″) a′ (linkEntry little o root (lentBy b))
-      entry-wiped {i″} {f″} {l″} n wi wf wl =
-          step-refused o root b (buffers i″ f″ l″) (wi ∙ ap (λ x. replicate (x .image) 0) kept) (wf ∙ ap (λ x. replicate (x .funcInfo) 0) kept) (wl ∙ ap (λ x. replicate (x .lineInfo) 0) kept) a′ passed
-          (subst (λ lent. stepResult o root lent ≡ refusedLink lent (replyOf a′)) same-lent (ended .refused n))
+      pub entry-done : replyOf (r′ .answer) .number ≡ 0 → StartedOutcomes o root (lentBy b) (buffers i′ f′ l′) r′
+      entry-done z = record {
+        outcomes = step-done o root b (buffers i′ f′ l′) (r′ .answer) passed
+            (subst (λ lent. Outcomes (buffers i′ f′ l′) (r′ .answer) (stepResult o root lent)) same-lent (ended .done z));
+        accounts = λ p. accounts-kept;
+      }
+
+      pub entry-wiped : {i″ f″ l″ : List ℕ} → (replyOf (r′ .answer) .number ≡ 0 → ⊥) → i″ ≡ replicate (length i′) 0 → f″ ≡ replicate (length f′) 0 → l″ ≡ replicate (length l′) 0
+          → StartedOutcomes o root (lentBy b) (buffers i″ f″ l″) r′
+      entry-wiped {i″} {f″} {l″} n wi wf wl = record {
+        outcomes = step-refused o root b (buffers i″ f″ l″) (wi ∙ ap (λ x. replicate (x .image) 0) kept) (wf ∙ ap (λ x. replicate (x .funcInfo) 0) kept)
+            (wl ∙ ap (λ x. replicate (x .lineInfo) 0) kept) (r′ .answer) passed
+            (subst (λ lent. stepResult o root lent ≡ refusedLink lent (replyOf (r′ .answer))) same-lent (ended .refused n));
+        accounts = λ p. accounts-kept;
+      }
 
       pub wiped-length : {i″ : List ℕ} → i″ ≡ replicate (length i′) 0 → length i″ ≡ length (b .image)
       wiped-length {i″} wi = again (length i′) i″ wi ∙ ap (λ x. x .image) kept

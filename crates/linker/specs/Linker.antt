@@ -13,6 +13,7 @@ use Rattle.rules.specs.declared.Answer.{Answer}
 use Rattle.rules.specs.declared.Judgement.{Judgement}
 use Rattle.rules.specs.declared.Table.the-variants.{Functions, Instructions, FuncInfo, LineInfo}
 use Rattle.rules.specs.Object.{Object, displacement}
+use Rattle.rules.specs.Faithful.{Piece}
 use Rattle.rules.specs.Bytes.{little, decoded, immediateStored, sourceStored}
 use Rattle.rules.specs.Link as Link
 use Rattle.rules.specs.Link.{Outcome, linked, refuses, unfinished, startOf, visit, append}
@@ -20,11 +21,13 @@ use Rattle.rules.specs.Tables.{Tables, objectOf}
 use Rattle.rules.specs.Records.{imageFunctions, imageLines, admits, linkStep}
 use Rattle.rules.specs.Answers.{replyOf, refusalIn}
 use Rattle.rules.specs.Lent.{Buffers, lentBy}
-use Rattle.rules.specs.Rows.{rowSize, mostRows, wholeRows, Offered, functionSlots, summed, tablesOf, mostImageSlots, mostImageFunctions, mostImageLines}
+use Rattle.rules.specs.Rows.{rowSize, mostRows, wholeRows, Offered, functionSlots, summed, tablesOf, linkRefusal, mostImageSlots, mostImageFunctions, mostImageLines}
 use Rattle.rules.specs.Lookups.{LinkChecked}
-use Rattle.rules.specs.Entries.{funcInfoBytes, lineInfoBytes, refusalReply, Outputs, roomIn, LinkResult, refusedLink, byOutcome}
+use Rattle.rules.specs.Entries.{funcInfoBytes, lineInfoBytes, refusalReply, Outputs, roomIn, LinkResult, refusedLink, byOutcome, linkEntry, PiecesResult}
 use Rattle.linker.specs.declared.State.{State}
 use Rattle.linker.specs.declared.Step.{Step}
+use Rattle.linker.specs.declared.Linked.{Linked}
+use Rattle.linker.specs.declared.Listed.{Listed}
 
 -- a start as the array has it
 abbrev pub startNumber : Option ℕ → ℕ
@@ -60,6 +63,10 @@ pub record Grown (before after : State) : Type 0 where
   pub starts : (row : ℕ) → getD (before .starts) row 0 ≢ 0 → getD (after .starts) row 0 ≡ getD (before .starts) row 0
   pub slots : before .used .slots ≤ after .used .slots
 
+-- the starts of the functions that are placed, as the array has them
+abbrev pub StartsAre : Offered → List Piece → List ℕ → Type 0
+StartsAre o placed starts = (row : ℕ) → row < wholeRows Functions (o .functions) → getD starts row 0 ≡ startNumber (startOf row placed)
+
 -- the buffers hold this state of the link step
 pub record Holds (o : Offered) (root : ℕ) (st : State) (b : Buffers) (s : Link.State) : Type 0 where
   pub slots : st .used .slots ≡ length (s .image)
@@ -68,7 +75,7 @@ pub record Holds (o : Offered) (root : ℕ) (st : State) (b : Buffers) (s : Link
   pub funcs : take (rowSize FuncInfo * st .used .funcs) (b .funcs) ≡ funcInfoBytes little (imageFunctions (tablesOf little o) root (s .placed))
   pub lines-count : st .used .lines ≡ length (imageLines (tablesOf little o) root (s .placed))
   pub lines : take (rowSize LineInfo * st .used .lines) (b .lines) ≡ lineInfoBytes little (imageLines (tablesOf little o) root (s .placed))
-  pub starts : (row : ℕ) → row < wholeRows Functions (o .functions) → getD (st .starts) row 0 ≡ startNumber (startOf row (s .placed))
+  pub starts : StartsAre o (s .placed) (st .starts)
   pub positive : (row start : ℕ) → startOf row (s .placed) ≡ some start → 1 ≤ start
 
 -- nothing is refused
@@ -151,8 +158,25 @@ pub record Outcomes (b : Buffers) (a : Answer) (result : LinkResult) : Type 0 wh
   pub funcs : b .funcs ≡ result .funcInfo
   pub lines : b .lines ≡ result .lineInfo
 
--- the answer is the step's, and so are the outputs, but that a refusal has still to zero them
-pub record Ended (o : Offered) (root : ℕ) (b b′ : Buffers) (a : Answer) : Type 0 where
+-- of the state that a link ends in: its starts, and an image within the limit
+pub record Accounts (o : Offered) (s : Link.State) (starts : List ℕ) : Type 0 where
+  pub starts-are : StartsAre o (s .placed) starts
+  pub few : length (s .image) ≤ mostImageSlots
+
+-- the answer is the step's, and so are the outputs, but that a refusal has still to zero them; the starts are the last state's
+pub record Ended (o : Offered) (root : ℕ) (b b′ : Buffers) (r : Linked) : Type 0 where
   pub lengths : lentBy b′ ≡ lentBy b
-  pub done : replyOf a .number ≡ 0 → Outcomes b′ a (stepResult o root (lentBy b))
-  pub refused : replyOf a .number ≢ 0 → stepResult o root (lentBy b) ≡ refusedLink (lentBy b) (replyOf a)
+  pub done : replyOf (r .answer) .number ≡ 0 → Outcomes b′ (r .answer) (stepResult o root (lentBy b))
+  pub refused : replyOf (r .answer) .number ≢ 0 → stepResult o root (lentBy b) ≡ refusedLink (lentBy b) (replyOf (r .answer))
+  pub accounts : (s : Link.State) → linkStep (tablesOf little o) (roomIn (lentBy b)) root ≡ linked s → Accounts o s (r .starts)
+
+-- the link's outcomes, and the starts of an accepted one
+pub record StartedOutcomes (o : Offered) (root : ℕ) (lent : Outputs) (b : Buffers) (r : Linked) : Type 0 where
+  pub outcomes : Outcomes b (r .answer) (linkEntry little o root lent)
+  pub accounts : linkRefusal o root ≡ none → (s : Link.State) → linkStep (tablesOf little o) (roomIn lent) root ≡ linked s → Accounts o s (r .starts)
+
+-- the reply and all four outputs, and how many pieces there are
+pub record ListedOutcomes (b : Buffers) (list : List ℕ) (r : Listed) (result : PiecesResult) : Type 0 where
+  pub outcomes : Outcomes b (r .answer) (result .link)
+  pub pieces : list ≡ result .pieces
+  pub counted : r .count ≡ length (result .list)

@@ -12,6 +12,7 @@ use merge::extend;
 use merge::has_room;
 use merge::part_of;
 use merge::stray_line;
+use pieces::order::put_list;
 use resolve::Meaning;
 use resolve::resolve;
 use rows::fields::function_offset;
@@ -26,7 +27,9 @@ use rules::Found;
 use rules::Judgement;
 use rules::Places;
 use rules::Slot;
+use rules::limits::FUNCTION_SIZE;
 use rules::limits::MOST_FUNCTIONS;
+use rules::limits::PIECE_SIZE;
 use rules::limits::RELOCATION_SIZE;
 use tables::checks::check_link;
 use wire::wipe;
@@ -36,8 +39,8 @@ ghost use lib.ListN.{length};
 ghost use Rattle.rules.specs.Bytes.{little, slotSize};
 ghost use Rattle.rules.specs.Lent.{was, offered, lent, outputs, lentOutputs, lentBy};
 ghost use Rattle.rules.specs.Rows.{mostImageSlots};
-ghost use Rattle.rules.specs.Entries.{linkEntry};
-ghost use Rattle.linker.specs.Linker.{Adds, Added, Asks, Placed, Visits, Visited, pointedTo, Starts, Ended, Outcomes};
+ghost use Rattle.rules.specs.Entries.{linkEntry, linkPiecesEntry};
+ghost use Rattle.linker.specs.Linker.{Adds, Added, Asks, Placed, Visits, Visited, pointedTo, Starts, Ended, Outcomes, StartedOutcomes, ListedOutcomes};
 
 // Where each function of table 3 starts in the image, 0 if it is not placed: the root has a slot, so no callee starts at 0.
 pub struct State {
@@ -320,6 +323,12 @@ fn relocate(
     }
 }
 
+// What a link answers, and where it placed each function of table 3 (0 for none); a refusal's starts say nothing.
+pub struct Linked {
+    pub answer: Answer,
+    pub starts: [u16; MOST_FUNCTIONS],
+}
+
 // Over checked tables, into outputs that are zero. A refusal leaves them to be wiped.
 fn link_checked(
     code: &[u8],
@@ -333,7 +342,7 @@ fn link_checked(
     image_func_info: &mut [u8],
     image_line_info: &mut [u8],
     root: u32,
-) -> Answer
+) -> Linked
     requires { ⌜ Starts
         (offered code symbols functions relocations instructions «func_info» «line_info»)
         root
@@ -361,7 +370,10 @@ fn link_checked(
         nothing,
         row,
     ) {
-        return Answer::Refused(refusal(Cause::NoRoom, root, 0));
+        return Linked {
+            answer: Answer::Refused(refusal(Cause::NoRoom, root, 0)),
+            starts: [0u16; MOST_FUNCTIONS],
+        };
     }
     let part = part_of(functions, row);
     let used = begin(
@@ -396,11 +408,82 @@ fn link_checked(
         slot_at(part.slots),
     );
     let judged = step.judged;
-    if let Judgement::Refused(why) = judged {
-        return Answer::Refused(why);
-    }
     let end = step.state;
-    Answer::Done(Places(end.used.slots, end.used.funcs, end.used.lines))
+    let starts = end.starts;
+    if let Judgement::Refused(why) = judged {
+        return Linked {
+            answer: Answer::Refused(why),
+            starts,
+        };
+    }
+    Linked {
+        answer: Answer::Done(Places(end.used.slots, end.used.funcs, end.used.lines)),
+        starts,
+    }
+}
+
+// The link, and where it placed each function; the starts of a refused one say nothing.
+fn link_starts(
+    code: &[u8],
+    symbols: &[u8],
+    functions: &[u8],
+    relocations: &[u8],
+    instructions: &[u8],
+    func_info: &[u8],
+    line_info: &[u8],
+    image: &mut [u8],
+    image_func_info: &mut [u8],
+    image_line_info: &mut [u8],
+    root: u32,
+) -> Linked
+    ensures { λ r. ⌜ StartedOutcomes
+        (lent code symbols functions relocations instructions «func_info» «line_info»)
+        root
+        (lentBy (lentOutputs image «image_func_info» «image_line_info»))
+        (outputs (image .exit) («image_func_info» .exit) («image_line_info» .exit))
+        r
+        ⌝ }
+{
+    wipe(image);
+    wipe(image_func_info);
+    wipe(image_line_info);
+    let checked = check_link(
+        code,
+        symbols,
+        functions,
+        relocations,
+        instructions,
+        func_info,
+        line_info,
+        root,
+    );
+    if let Judgement::Refused(why) = checked {
+        return Linked {
+            answer: Answer::Refused(why),
+            starts: [0u16; MOST_FUNCTIONS],
+        };
+    }
+    let linked = link_checked(
+        code,
+        symbols,
+        functions,
+        relocations,
+        instructions,
+        func_info,
+        line_info,
+        image,
+        image_func_info,
+        image_line_info,
+        root,
+    );
+    let answer = linked.answer;
+    let Answer::Done(_) = answer else {
+        wipe(image); // what the step wrote
+        wipe(image_func_info); // and its function records
+        wipe(image_line_info); // and its line records
+        return linked;
+    };
+    linked
 }
 
 // Links the function at the row root of table 3. A refused link leaves its three outputs all zero; an accepted one has zero after the used bytes.
@@ -427,23 +510,7 @@ pub fn link(
         (lentBy (lentOutputs image «image_func_info» «image_line_info»)))
         ⌝ }
 {
-    wipe(image);
-    wipe(image_func_info);
-    wipe(image_line_info);
-    let checked = check_link(
-        code,
-        symbols,
-        functions,
-        relocations,
-        instructions,
-        func_info,
-        line_info,
-        root,
-    );
-    if let Judgement::Refused(why) = checked {
-        return Answer::Refused(why);
-    }
-    let answer = link_checked(
+    let linked = link_starts(
         code,
         symbols,
         functions,
@@ -456,11 +523,73 @@ pub fn link(
         image_line_info,
         root,
     );
-    let Answer::Done(_) = answer else {
-        wipe(image); // what the step wrote
-        wipe(image_func_info); // and its function records
-        wipe(image_line_info); // and its line records
-        return answer;
+    linked.answer
+}
+
+// What a link with its list answers, and how many pieces the list has.
+pub struct Listed {
+    pub answer: Answer,
+    pub count: usize,
+}
+
+// The link with its list of pieces, in order of placing, zero after it. Room for fewer than one more than table 3 has rows is refused
+// before everything else.
+pub fn link_pieces(
+    code: &[u8],
+    symbols: &[u8],
+    functions: &[u8],
+    relocations: &[u8],
+    instructions: &[u8],
+    func_info: &[u8],
+    line_info: &[u8],
+    image: &mut [u8],
+    image_func_info: &mut [u8],
+    image_line_info: &mut [u8],
+    pieces: &mut [u8],
+    root: u32,
+) -> Listed
+    ensures { λ r. ⌜ ListedOutcomes
+        (outputs (image .exit) («image_func_info» .exit) («image_line_info» .exit))
+        (now (pieces .exit))
+        r
+        (linkPiecesEntry
+        little
+        (lent code symbols functions relocations instructions «func_info» «line_info»)
+        root
+        (lentBy (lentOutputs image «image_func_info» «image_line_info»))
+        (length (was pieces)))
+        ⌝ }
+{
+    let rows = functions.len() / FUNCTION_SIZE;
+    if pieces.len() < PIECE_SIZE * (rows + 1) {
+        wipe(image);
+        wipe(image_func_info);
+        wipe(image_line_info);
+        wipe(pieces);
+        return Listed {
+            answer: Answer::Refused(refusal(Cause::NoListRoom, 0, 0)),
+            count: 0,
+        };
+    }
+    wipe(pieces);
+    let linked = link_starts(
+        code,
+        symbols,
+        functions,
+        relocations,
+        instructions,
+        func_info,
+        line_info,
+        image,
+        image_func_info,
+        image_line_info,
+        root,
+    );
+    let answer = linked.answer;
+    let Answer::Done(places) = answer else {
+        return Listed { answer, count: 0 };
     };
-    answer
+    let starts = linked.starts;
+    let count = put_list(functions, &starts, root, places.0, pieces);
+    Listed { answer, count }
 }

@@ -3,21 +3,23 @@
 use mathlib.Core.Path.{_≡_, refl, sym, ap, _∙_}
 use mathlib.Core.Bool.{Bool, true, false, cond, _&&_}
 use mathlib.Core.Option.{Option, none, some}
-use mathlib.Core.List.{List}
+use mathlib.Core.List.{List, [], _∷_}
 use Prim.Native.Nat.{ℕ, zero, suc, _+_, _-_, _≤_, _<_}
 use native.Mathlib.Omega.{arith}
 use native.Mathlib.Nat.{add-zero}
 use native.Mathlib.Numerals.{add-one}
 use borrow.Author.Tests.{le-leb, lt-leb, lt-ltb, le-ltb, leb-true, ltb-true}
 use lib.Dec.{leb, ltb}
+use lib.ListN.{length}
 use Rattle.rules.specs.declared.Table.the-variants.{LineInfo}
 use Rattle.rules.specs.Bytes.{little}
 use Rattle.rules.specs.Link.{run}
 use Rattle.rules.specs.Tables.{LineRecord}
 use Rattle.rules.specs.Rows.{functionSlots, functionLineInfo, recordSlot, lineInfoRow, summed}
 use Rattle.rules.specs.Records.{firstSlot, stray}
+use Rattle.rules.proofs.Linking.{length-run}
 use Rattle.rules.proofs.Passed.{and-left, and-right}
-use Rattle.merge.specs.Merge.{strayIn, Near}
+use Rattle.merge.specs.Merge.{lineRows, strayIn, Near}
 
 pub first-slot : (f : ℕ → LineRecord) (first n : ℕ) → 0 < n → firstSlot (run f first n) ≡ f first .slot
 first-slot f first zero l = absurd (omega arith)
@@ -94,3 +96,20 @@ pub near-in : (functions lineInfo : List ℕ) (row first count start : ℕ) → 
     → start + functionSlots functions row < 0x1_0000_0000 → strayIn functions lineInfo row ≡ none → Near lineInfo first count start
 near-in functions lineInfo row first count start e f small none-strays =
     rw (e, f) (near (functionSlots functions row) start lineInfo (summed (functionLineInfo functions) 0 row) (functionLineInfo functions row) small none-strays)
+
+-- a record that strays is one of the row's
+stray-below : (slots origin from k : ℕ) (ls : List LineRecord) → stray slots origin from ls ≡ some k → k < from + length ls
+stray-below slots origin from k [] e = let z : _≡_ {A = ℕ} 0 1 = cc in absurd (omega arith)
+stray-below slots origin from k (l ∷ ls) e = go (leb origin (l .slot) && ltb (l .slot - origin) slots) e (λ rest. stray-below slots origin (suc from) k ls rest)
+  where
+    go : (b : Bool) → cond b (stray slots origin (suc from) ls) (some from) ≡ some k → (stray slots origin (suc from) ls ≡ some k → k < suc from + length ls) → k < from + suc (length ls)
+    go true e later = omega (arith, later e)
+    go false e later = let same : from ≡ k = cc in omega arith
+
+pub stray-low : (functions lineInfo : List ℕ) (row k : ℕ) → strayIn functions lineInfo row ≡ some k → k < functionLineInfo functions row
+stray-low functions lineInfo row k e =
+    omega (
+      arith,
+      stray-below (functionSlots functions row) (firstSlot (lineRows functions lineInfo row)) 0 k (lineRows functions lineInfo row) e,
+      length-run (lineInfoRow little lineInfo) (summed (functionLineInfo functions) 0 row) (functionLineInfo functions row),
+    )

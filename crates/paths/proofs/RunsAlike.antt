@@ -25,4 +25,4 @@ module _ (o : Offered) (root : ℕ) (b b′ : Buffers) (a : Answer) (out : Outco
   pub linked-runs-alike : (answers : List Bool) (room given limit : ℕ)
       → Alike (SamePlace (piece root 0 ∷ link-keeps-path o root b b′ a out are ok .others)) (ran room given (sourceWalk (objectOf (tablesOf little o)) root answers) limit)
       (ran room given (imageWalk (decoded little (usedImage (said a b′))) answers) limit)
-  linked-runs-alike = paths-alike (objectOf (tablesOf little o)) root (decoded little (usedImage (said a b′))) (piece root 0 ∷ link-keeps-path o root b b′ a out are ok .others) (link-keeps-path o root b b′ a out are ok .path)
+  linked-runs-alike = paths-alike (objectOf (tablesOf little o)) root (decoded little (usedImage (said a b′))) (piece root 0 ∷ link-keeps-path o root b b′ a out are ok .others) (link-keeps-path o root b b′ a out are ok .kept .path)

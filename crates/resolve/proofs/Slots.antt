@@ -76,7 +76,7 @@ module _ {o : Offered} {row first slot : ℕ} {rel : Found} (r : Resolves o row 
       omega (arith, r .first-is, r .tables .instructions, part-inside (functionSlots functions) (wholeRows Functions functions) row (r .row-inside))
 
   -- any of the row's slots
-  insn-at : (k : ℕ) → k < functionSlots functions row → insnOf tables row k ≡ slotIn little instructions (first + k)
+  pub insn-at : (k : ℕ) → k < functionSlots functions row → insnOf tables row k ≡ slotIn little instructions (first + k)
   unfolding tablesOf
   insn-at k l =
       ap (λ (n : ℕ). slotAt (decoded little instructions) (n + k)) (base-is little o row (omega (arith, r .row-inside)) ∙ sym (r .first-is))

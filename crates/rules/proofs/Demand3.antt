@@ -24,7 +24,7 @@ use Rattle.rules.specs.Records.{Room, imageFunctions, imageLines, roomFo
 use Rattle.rules.specs.Answers.{Reply, reply}
 use Rattle.rules.specs.Rows.{Offered, tablesOf, linkRefusal, mostImageSlots}
 use Rattle.rules.specs.Entries.{funcInfoBytes, lineInfoBytes, Outputs, roomIn, LinkResult, acceptedLink, byOutcome, unlessLinkRefused, linkEntry}
-use Rattle.rules.specs.Demand3.{count, usedImage, usedFuncInfo, usedLineInfo, Calls, FunctionReference, Refers, PathKept}
+use Rattle.rules.specs.Demand3.{count, usedImage, usedFuncInfo, usedLineInfo, Calls, FunctionReference, Refers, PathKeptBy, PathKept}
 use Rattle.rules.proofs.Path.{keeps-path, stands-in}
 use Rattle.rules.proofs.Slots.{meaning-fits, call-opcode, wide-opcode}
 use Rattle.rules.proofs.Slots as Slots
@@ -227,11 +227,11 @@ module _ (tables : Tables) (room : Room) where
       go true f e = leb-true _ _ f
       go false f e = let z : _≡_ {A = ℕ} 0 1 = cc in absurd (omega arith)
 
-  stray-passed : (a : Option Refusal) (k : Option ℕ) (row : ℕ) → thenStray tables a k row ≡ none → a ≡ none
+  pub stray-passed : (a : Option Refusal) (k : Option ℕ) (row : ℕ) → thenStray tables a k row ≡ none → a ≡ none
   stray-passed none k row e = refl
   stray-passed (some why) k row e = let z : _≡_ {A = ℕ} 0 1 = cc in absurd (omega arith)
 
-  image-small : (root : ℕ) (final : State) → linkStep tables room root ≡ linked final → length (final .image) ≤ room .slots
+  pub image-small : (root : ℕ) (final : State) → linkStep tables room root ≡ linked final → length (final .image) ≤ room .slots
   unfolding linkStep objectOf admits
   image-small root final e =
       within-room (objectOf tables) (admits tables room root) (rootAdmits tables room root) root final e (room .slots)
@@ -240,7 +240,7 @@ module _ (tables : Tables) (room : Room) where
       (stray-passed (roomFor tables room (length (state .image)) (length (imageFunctions tables root (state .placed))) (length (imageLines tables root (state .placed))) row) (strayLine tables row) row ok))
 
 -- ---- the theorem
-front : (n k : ℕ) (bytes : List ℕ) → length bytes ≡ k → take k (padded n bytes) ≡ bytes
+pub front : (n k : ℕ) (bytes : List ℕ) → length bytes ≡ k → take k (padded n bytes) ≡ bytes
 unfolding padded
 front n k bytes e = take-at bytes (replicate (n - length bytes) 0) k e
 
@@ -248,6 +248,23 @@ front n k bytes e = take-at bytes (replicate (n - length bytes) 0) k e
 pub step-finishes : (order : Order) (o : Offered) (lent : Outputs) (root : ℕ) → Finished (linkStep (tablesOf order o) (roomIn lent) root)
 unfolding linkStep
 step-finishes order o lent root = tables-finish (tablesOf order o) (admits (tablesOf order o) (roomIn lent) root) (rootAdmits (tablesOf order o) (roomIn lent) root) root
+
+-- a faithful image with the records of its pieces keeps the path, whoever made it
+pub kept-by : (order : Order) (o : Offered) (root : ℕ) (image funcInfo lineInfo : List ℕ) (others : List Piece)
+    → Faithful (objectOf (tablesOf order o)) root (decoded order image) (piece root 0 ∷ others)
+    → funcInfo ≡ funcInfoBytes order (imageFunctions (tablesOf order o) root others)
+    → lineInfo ≡ lineInfoBytes order (imageLines (tablesOf order o) root others)
+    → PathKeptBy order o root image funcInfo lineInfo others
+kept-by order o root image funcInfo lineInfo others f functions lines = record {
+  layout = f;
+  functions = functions;
+  lines = lines;
+  path = keeps-path (objectOf (tablesOf order o)) root (decoded order image) (piece root 0 ∷ others) f;
+  named = λ answers steps row slot back rest.
+      walk-names (objectOf (tablesOf order o)) root (decoded order image) (piece root 0 ∷ others) f answers steps row slot back rest;
+  referred = λ answers steps row slot back rest.
+      walk-refers (tablesOf order o) root (decoded order image) (piece root 0 ∷ others) f answers steps row slot back rest;
+}
 
 module _ (order : Order) (o : Offered) (root : ℕ) (lent : Outputs) (are : AreBytes (o .instructions)) where
   source-plain : (row slot : ℕ) → Plain (objectOf (tablesOf order o) .insn row slot)
@@ -259,7 +276,7 @@ module _ (order : Order) (o : Offered) (root : ℕ) (lent : Outputs) (are : AreB
     unfolding linkStep
     faithful = link-faithful (objectOf (tablesOf order o)) (admits (tablesOf order o) (roomIn lent) root) (rootAdmits (tablesOf order o) (roomIn lent) root) root final e
 
-    plain : AllPlain (final .image)
+    pub plain : AllPlain (final .image)
     plain =
         all-plain (final .image)
         (image-plain (objectOf (tablesOf order o)) root (final .image) (piece root 0 ∷ final .placed) faithful source-plain
@@ -276,26 +293,18 @@ module _ (order : Order) (o : Offered) (root : ℕ) (lent : Outputs) (are : AreB
 
     accepted-keeps : PathKept order o root result
     unfolding result
-    accepted-keeps =
-        let f = subst (λ image. Faithful (objectOf (tablesOf order o)) root image (piece root 0 ∷ final .placed)) (sym image-back) faithful in
-        record {
-          others = final .placed;
-          layout = f;
-          slots = ap length image-back;
-          functions =
-              front (lent .funcInfo) (8 * length (imageFunctions (tablesOf order o) root (final .placed))) (funcInfoBytes order (imageFunctions (tablesOf order o) root (final .placed)))
-              (func-bytes-length order (imageFunctions (tablesOf order o) root (final .placed)));
-          functions-count = refl;
-          lines =
-              front (lent .lineInfo) (16 * length (imageLines (tablesOf order o) root (final .placed))) (lineInfoBytes order (imageLines (tablesOf order o) root (final .placed)))
-              (line-bytes-length order (imageLines (tablesOf order o) root (final .placed)));
-          lines-count = refl;
-          path = keeps-path (objectOf (tablesOf order o)) root (decoded order (usedImage (acceptedLink order lent (final .image) (imageFunctions (tablesOf order o) root (final .placed)) (imageLines (tablesOf order o) root (final .placed))))) (piece root 0 ∷ final .placed) f;
-          named = λ answers steps row slot back rest.
-              walk-names (objectOf (tablesOf order o)) root (decoded order (usedImage (acceptedLink order lent (final .image) (imageFunctions (tablesOf order o) root (final .placed)) (imageLines (tablesOf order o) root (final .placed))))) (piece root 0 ∷ final .placed) f answers steps row slot back rest;
-          referred = λ answers steps row slot back rest.
-              walk-refers (tablesOf order o) root (decoded order (usedImage (acceptedLink order lent (final .image) (imageFunctions (tablesOf order o) root (final .placed)) (imageLines (tablesOf order o) root (final .placed))))) (piece root 0 ∷ final .placed) f answers steps row slot back rest;
-        }
+    accepted-keeps = record {
+      others = final .placed;
+      kept = kept-by order o root (usedImage (acceptedLink order lent (final .image) (imageFunctions (tablesOf order o) root (final .placed)) (imageLines (tablesOf order o) root (final .placed)))) _ _ (final .placed)
+          (subst (λ image. Faithful (objectOf (tablesOf order o)) root image (piece root 0 ∷ final .placed)) (sym image-back) faithful)
+          (front (lent .funcInfo) (8 * length (imageFunctions (tablesOf order o) root (final .placed))) (funcInfoBytes order (imageFunctions (tablesOf order o) root (final .placed)))
+          (func-bytes-length order (imageFunctions (tablesOf order o) root (final .placed))))
+          (front (lent .lineInfo) (16 * length (imageLines (tablesOf order o) root (final .placed))) (lineInfoBytes order (imageLines (tablesOf order o) root (final .placed)))
+          (line-bytes-length order (imageLines (tablesOf order o) root (final .placed))));
+      slots = ap length image-back;
+      functions-count = refl;
+      lines-count = refl;
+    }
 
   -- an answer of 0, on any bytes, root and lent sizes
   pub demand-3 : linkEntry order o root lent .reply .number ≡ 0 → PathKept order o root (linkEntry order o root lent)

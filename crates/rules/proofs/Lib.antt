@@ -9,6 +9,11 @@ pub mod Linking
 pub mod Ending
 pub mod Unfolds
 pub mod Demand3
+pub mod ExamineLaws
+pub mod ExamineSlots
+pub mod ExamineRecords
+pub mod ExamineNumbers
+pub mod Examining
 pub mod Writing
 pub mod Rounds
 pub mod Searches
@@ -29,3 +34,10 @@ pub mod MapsCode
 pub mod MapsBytes
 pub mod Replies
 pub mod Worked
+pub mod Placing
+pub mod RowBytes
+pub mod Fitting
+pub mod Listing
+pub mod Accepting
+pub mod ExamineWorked
+pub mod Verdicts

@@ -1,6 +1,6 @@
 -- A refused link has a number: none is 0. So an answer of 0 is an accepted link.
 -- Assumes nothing.
-use mathlib.Core.Path.{_≡_, refl, sym, ap, _∙_}
+use mathlib.Core.Path.{_≡_, refl, sym, ap, _∙_, subst}
 use mathlib.Core.Logic.{_≢_}
 use mathlib.Core.Bool.{Bool, true, false, cond, _&&_}
 use mathlib.Core.Option.{Option, none, some}
@@ -137,6 +137,10 @@ module _ (tables : Tables) where
   names-ok : (row slot : ℕ) → NamedOk (objectOf tables .named row slot)
   unfolding objectOf
   names-ok row slot = relocation-ok (relocationAt tables (rowOf tables row) slot) (rowOf tables row) slot (insnOf tables row slot)
+
+  -- of a slot
+  pub meaning-numbered : (row slot number : ℕ) → meaning (objectOf tables) row slot ≡ refused number → number ≢ 0
+  meaning-numbered row slot number e = subst MeaningOk e (meaning-ok (objectOf tables) names-ok row slot)
 
   room-ok : (room : Room) (slots functions lines row : ℕ) → RefusalOk (roomFor tables room slots functions lines row)
   unfolding roomFor

@@ -10,7 +10,7 @@ use lib.Dec.{eqb}
 use lib.ListN.{getD}
 use Rattle.rules.specs.declared.Places.{Places}
 use Rattle.rules.specs.declared.Cause.{Cause}
-use Rattle.rules.specs.declared.Cause.the-variants.{TooManyRows, BrokenRow, UnknownSymbol, InvalidRelocationOffset, SectionNotFound, NotWideLoad, ValueOutside, UnknownForm, NoCode, UnknownFunction, NoRoom, LineOutside, NoRoot, BrokenInfo}
+use Rattle.rules.specs.declared.Cause.the-variants.{TooManyRows, BrokenRow, UnknownSymbol, InvalidRelocationOffset, SectionNotFound, NotWideLoad, ValueOutside, UnknownForm, NoCode, UnknownFunction, NoRoom, LineOutside, NoRoot, BrokenInfo, NoListRoom, ShownTooLong, ShownPartial, RootNotFirst, NoSuchFunction, NotTiled, EndsElsewhere, SlotChanged, NotReference, WrongTarget, FuncInfoDiffers, LineInfoDiffers, RecordsOver}
 use Rattle.rules.specs.declared.Refusal.{Refusal}
 use Rattle.rules.specs.declared.Answer.{Answer}
 use Rattle.rules.specs.declared.Answer.the-variants.{Done, Refused}
@@ -32,7 +32,20 @@ causeOf n =
     (cond (eqb n 11) NoRoom
     (cond (eqb n 12) LineOutside
     (cond (eqb n 13) NoRoot
-    BrokenInfo))))))))))))
+    (cond (eqb n 14) BrokenInfo
+    (cond (eqb n 32) NoListRoom
+    (cond (eqb n 33) ShownTooLong
+    (cond (eqb n 34) ShownPartial
+    (cond (eqb n 35) RootNotFirst
+    (cond (eqb n 36) NoSuchFunction
+    (cond (eqb n 37) NotTiled
+    (cond (eqb n 38) EndsElsewhere
+    (cond (eqb n 39) SlotChanged
+    (cond (eqb n 40) NotReference
+    (cond (eqb n 41) WrongTarget
+    (cond (eqb n 42) FuncInfoDiffers
+    (cond (eqb n 43) LineInfoDiffers
+    RecordsOver)))))))))))))))))))))))))
 
 cause-back : (c : Cause) → causeOf (numberOf c) ≡ c
 unfolding causeOf
@@ -50,6 +63,19 @@ cause-back NoRoom = refl
 cause-back LineOutside = refl
 cause-back NoRoot = refl
 cause-back BrokenInfo = refl
+cause-back NoListRoom = refl
+cause-back ShownTooLong = refl
+cause-back ShownPartial = refl
+cause-back RootNotFirst = refl
+cause-back NoSuchFunction = refl
+cause-back NotTiled = refl
+cause-back EndsElsewhere = refl
+cause-back SlotChanged = refl
+cause-back NotReference = refl
+cause-back WrongTarget = refl
+cause-back FuncInfoDiffers = refl
+cause-back LineInfoDiffers = refl
+cause-back RecordsOver = refl
 
 placesIn : Reply → Places
 placesIn r = record { 0 = getD (r .places) 0 0; 1 = getD (r .places) 1 0; 2 = getD (r .places) 2 0 }
@@ -80,6 +106,19 @@ not-zero NoRoom = refl
 not-zero LineOutside = refl
 not-zero NoRoot = refl
 not-zero BrokenInfo = refl
+not-zero NoListRoom = refl
+not-zero ShownTooLong = refl
+not-zero ShownPartial = refl
+not-zero RootNotFirst = refl
+not-zero NoSuchFunction = refl
+not-zero NotTiled = refl
+not-zero EndsElsewhere = refl
+not-zero SlotChanged = refl
+not-zero NotReference = refl
+not-zero WrongTarget = refl
+not-zero FuncInfoDiffers = refl
+not-zero LineInfoDiffers = refl
+not-zero RecordsOver = refl
 
 pub refuses : (r : Refusal) → refusedReply r .number ≢ 0
 refuses r = eqb-false (numberOf (r .cause)) 0 (not-zero (r .cause))

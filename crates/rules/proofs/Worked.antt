@@ -23,59 +23,59 @@ use Rattle.rules.specs.Walk.{kind, leads, inSource, inImage, Walk, stand
 
 -- ---- rows as bytes
 
-abbrev u32 : ℕ → List ℕ
+abbrev pub u32 : ℕ → List ℕ
 u32 = bytes4 little
 
 abbrev u64 : ℕ → List ℕ
 u64 n = u32 (n % 0x1_0000_0000) ++ u32 (n / 0x1_0000_0000)
 
-abbrev zeros : ℕ → List ℕ
+abbrev pub zeros : ℕ → List ℕ
 zeros n = replicate n 0
 
-abbrev symbol : ℕ → ℕ → ℕ → ℕ → List ℕ
+abbrev pub symbol : ℕ → ℕ → ℕ → ℕ → List ℕ
 symbol index section address kind = u32 index ++ (u32 section ++ (u64 address ++ (kind ∷ zeros 7)))
 
-abbrev function : ℕ → ℕ → ℕ → ℕ → ℕ → ℕ → List ℕ
+abbrev pub function : ℕ → ℕ → ℕ → ℕ → ℕ → ℕ → List ℕ
 function section slots address offset funcs lines = u32 section ++ (u32 slots ++ (u64 address ++ (u64 offset ++ (u32 funcs ++ u32 lines))))
 
-abbrev relocation : ℕ → ℕ → ℕ → ℕ → List ℕ
+abbrev pub relocation : ℕ → ℕ → ℕ → ℕ → List ℕ
 relocation section symbol offset size = u32 section ++ (u32 symbol ++ (u64 offset ++ (size ∷ zeros 7)))
 
 abbrev aMap : ℕ → ℕ → ℕ → ℕ → List ℕ
 aMap section symbol fd hasData = u32 section ++ (u32 symbol ++ (u32 fd ++ (hasData ∷ zeros 3)))
 
-abbrev funcInfo : ℕ → ℕ → List ℕ
+abbrev pub funcInfo : ℕ → ℕ → List ℕ
 funcInfo slot kind = u32 slot ++ u32 kind
 
-abbrev lineInfo : ℕ → List ℕ
+abbrev pub lineInfo : ℕ → List ℕ
 lineInfo slot = u32 slot ++ (u32 1 ++ (u32 2 ++ u32 3))
 
 abbrev lineInfos : List ℕ → List ℕ
 lineInfos [] = []
 lineInfos (slot ∷ slots) = lineInfo slot ++ lineInfos slots
 
-abbrev joined : List (List ℕ) → List ℕ
+abbrev pub joined : List (List ℕ) → List ℕ
 joined [] = []
 joined (x ∷ xs) = x ++ joined xs
 
 -- ---- slots as bytes
 
-abbrev exit : List ℕ
+abbrev pub exit : List ℕ
 exit = 0x95 ∷ zeros 7
 
 -- a call, with its immediate's bits
-abbrev call : ℕ → List ℕ
+abbrev pub call : ℕ → List ℕ
 call bits = 0x85 ∷ 0x10 ∷ 0 ∷ 0 ∷ u32 bits
 
 -- immediate −1
-abbrev minusOne : ℕ
+abbrev pub minusOne : ℕ
 minusOne = 0xFFFF_FFFF
 
 -- an opcode of 18 hex, its register byte, its immediate
-abbrev wide : ℕ → ℕ → List ℕ
+abbrev pub wide : ℕ → ℕ → List ℕ
 wide registers bits = 0x18 ∷ registers ∷ 0 ∷ 0 ∷ u32 bits
 
-abbrev second : ℕ → List ℕ
+abbrev pub second : ℕ → List ℕ
 second bits = zeros 4 ++ u32 bits
 
 -- ---- what is seen of an answer: its number and places, and every buffer lent to write
@@ -95,7 +95,7 @@ mapSeen r = seen (r .reply) (r .instructions ∷ [])
 
 -- ---- links: each function has a function record of its own type, so that the outputs show its start
 
-abbrev offer : List (List ℕ) → List (List ℕ) → List (List ℕ) → List (List ℕ) → List (List ℕ) → List (List ℕ) → List (List ℕ) → Offered
+abbrev pub offer : List (List ℕ) → List (List ℕ) → List (List ℕ) → List (List ℕ) → List (List ℕ) → List (List ℕ) → List (List ℕ) → Offered
 offer code symbols functions relocations instructions funcs lines = record {
   code = joined code;
   symbols = joined symbols;
@@ -108,24 +108,24 @@ offer code symbols functions relocations instructions funcs lines = record {
 }
 
 -- outputs with room for slots, function and line records, and two bytes over
-abbrev lent : ℕ → ℕ → ℕ → Outputs
+abbrev pub lent : ℕ → ℕ → ℕ → Outputs
 lent slots funcs lines = record { image = 8 * slots + 2; funcInfo = 8 * funcs + 2; lineInfo = 16 * lines + 2 }
 
 abbrev held : List (List ℕ) → List ℕ
 held rows = joined rows ++ zeros 2
 
 -- "root call at slot 0, immediate −1, size 32, Section symbol at 0, callee at 0, root of 3 slots: start 3, immediate 2"
-abbrev oneCallee : Offered
+abbrev pub oneCallee : Offered
 oneCallee =
     offer (u32 1 ∷ u32 2 ∷ []) (symbol 7 1 0 2 ∷ []) (function 1 1 0 0 1 0 ∷ function 2 3 0 0 1 0 ∷ []) (relocation 2 7 0 32 ∷ [])
     (exit ∷ call minusOne ∷ exit ∷ exit ∷ []) (funcInfo 0 11 ∷ funcInfo 0 12 ∷ []) []
 
 -- "root of 2 slots, call −1 without relocation at its own address, exit"
-abbrev ownCall : Offered
+abbrev pub ownCall : Offered
 ownCall = offer (u32 1 ∷ []) [] (function 1 2 0 0 1 0 ∷ []) [] (call minusOne ∷ exit ∷ []) (funcInfo 0 11 ∷ []) []
 
 -- "root calls F, H, exits; F (2 slots) calls G, exits; G, H 1 slot": rows root, F, G, H of sections 1 to 4
-abbrev nested : Offered
+abbrev pub nested : Offered
 nested =
     offer (u32 1 ∷ u32 2 ∷ u32 3 ∷ u32 4 ∷ []) (symbol 2 2 0 2 ∷ symbol 3 3 0 2 ∷ symbol 4 4 0 2 ∷ [])
     (function 1 3 0 0 1 0 ∷ function 2 2 0 0 1 0 ∷ function 3 1 0 0 1 0 ∷ function 4 1 0 0 1 0 ∷ [])
@@ -141,13 +141,13 @@ sameAddress =
     (funcInfo 0 11 ∷ funcInfo 0 12 ∷ funcInfo 0 13 ∷ []) []
 
 -- "`18 01`, immediate 16, size 64, symbol 0, root of 3"
-abbrev reference : Offered
+abbrev pub reference : Offered
 reference =
     offer (u32 1 ∷ u32 2 ∷ []) (symbol 7 1 0 2 ∷ []) (function 1 1 16 0 1 0 ∷ function 2 3 0 0 1 0 ∷ []) (relocation 2 7 0 64 ∷ [])
     (exit ∷ wide 0x01 16 ∷ second 0 ∷ exit ∷ []) (funcInfo 0 11 ∷ funcInfo 0 12 ∷ []) []
 
 -- "lines 10, 10, 11 on 2 slots at 3": the callee's line records, of a root of 3 slots
-abbrev lined : List ℕ → Offered
+abbrev pub lined : List ℕ → Offered
 lined slots =
     offer (u32 1 ∷ u32 2 ∷ []) (symbol 7 1 0 2 ∷ []) (function 1 2 0 80 0 (length slots) ∷ function 2 3 0 0 0 1 ∷ []) (relocation 2 7 0 32 ∷ [])
     (exit ∷ exit ∷ call minusOne ∷ exit ∷ exit ∷ []) [] (lineInfos slots ∷ lineInfo 5 ∷ [])
@@ -270,7 +270,7 @@ strays callee root =
     (exit ∷ exit ∷ call minusOne ∷ exit ∷ exit ∷ []) [] (lineInfos callee ∷ lineInfos root ∷ [])
 
 -- the object of one callee with 65 code sections, or with a byte too few in table 2; and a root that is no row: 1, before 2, before 13
-abbrev spoiled : List (List ℕ) → List (List ℕ) → Offered
+abbrev pub spoiled : List (List ℕ) → List (List ℕ) → Offered
 spoiled code symbols =
     offer code symbols (function 1 1 0 0 1 0 ∷ function 2 3 0 0 1 0 ∷ []) (relocation 2 7 0 32 ∷ []) (exit ∷ call minusOne ∷ exit ∷ exit ∷ [])
     (funcInfo 0 11 ∷ funcInfo 0 12 ∷ []) []

@@ -7,7 +7,7 @@ use lib.ListN.{take}
 use Rattle.rules.specs.Bytes.{little, bytes4, padded}
 use Rattle.rules.specs.declared.Places.{Places}
 use Rattle.rules.specs.declared.Cause.{Cause}
-use Rattle.rules.specs.declared.Cause.the-variants.{TooManyRows, BrokenRow, UnknownSymbol, InvalidRelocationOffset, SectionNotFound, NotWideLoad, ValueOutside, UnknownForm, NoCode, UnknownFunction, NoRoom, LineOutside, NoRoot, BrokenInfo}
+use Rattle.rules.specs.declared.Cause.the-variants.{TooManyRows, BrokenRow, UnknownSymbol, InvalidRelocationOffset, SectionNotFound, NotWideLoad, ValueOutside, UnknownForm, NoCode, UnknownFunction, NoRoom, LineOutside, NoRoot, BrokenInfo, NoListRoom, ShownTooLong, ShownPartial, RootNotFirst, NoSuchFunction, NotTiled, EndsElsewhere, SlotChanged, NotReference, WrongTarget, FuncInfoDiffers, LineInfoDiffers, RecordsOver}
 use Rattle.rules.specs.declared.Refusal.{Refusal}
 use Rattle.rules.specs.declared.Answer.{Answer}
 use Rattle.rules.specs.declared.Answer.the-variants as answer
@@ -26,7 +26,7 @@ reply number a b c = record { number = number; places = a ∷ b ∷ c ∷ [] }
 abbrev pub placesOf : Places → List ℕ
 placesOf p = p .0 ∷ p .1 ∷ p .2 ∷ []
 
--- document 01's number of each cause
+-- document 01's number of each cause, to 14
 abbrev pub numberOf : Cause → ℕ
 numberOf TooManyRows = 1
 numberOf BrokenRow = 2
@@ -42,6 +42,20 @@ numberOf NoRoom = 11
 numberOf LineOutside = 12
 numberOf NoRoot = 13
 numberOf BrokenInfo = 14
+-- ours, from 32 on
+numberOf NoListRoom = 32
+numberOf ShownTooLong = 33
+numberOf ShownPartial = 34
+numberOf RootNotFirst = 35
+numberOf NoSuchFunction = 36
+numberOf NotTiled = 37
+numberOf EndsElsewhere = 38
+numberOf SlotChanged = 39
+numberOf NotReference = 40
+numberOf WrongTarget = 41
+numberOf FuncInfoDiffers = 42
+numberOf LineInfoDiffers = 43
+numberOf RecordsOver = 44
 
 abbrev pub refusedReply : Refusal → Reply
 refusedReply r = record { number = numberOf (r .cause); places = placesOf (r .places) }

@@ -18,7 +18,9 @@ use Rattle.rules.specs.Tables.{Symbol, Relocation, Tables, rowOf, refers
 use Rattle.rules.specs.Maps.{symbolOf}
 use Rattle.rules.specs.Records.{imageFunctions, imageLines}
 use Rattle.rules.specs.Rows.{rowSize, Offered, tablesOf}
-use Rattle.rules.specs.Entries.{LinkResult, funcInfoBytes, lineInfoBytes}
+use Rattle.rules.specs.Entries.{LinkResult, PiecesResult, funcInfoBytes, lineInfoBytes}
+use Rattle.rules.specs.Pieces.{pieceSize, piecesOf, listRows}
+use Rattle.rules.specs.Examine.{Shown, shown}
 
 -- the counts that the places say, and the used bytes of each output
 abbrev pub count : LinkResult → ℕ → ℕ
@@ -32,6 +34,13 @@ usedFuncInfo r = take (rowSize FuncInfo * count r 1) (r .funcInfo)
 
 abbrev pub usedLineInfo : LinkResult → List ℕ
 usedLineInfo r = take (rowSize LineInfo * count r 2) (r .lineInfo)
+
+-- the list of a link that is done, and all that it then shows
+abbrev pub usedPieces : PiecesResult → List ℕ
+usedPieces r = take (pieceSize * listRows (r .pieces)) (r .pieces)
+
+abbrev pub shownOf : PiecesResult → Shown
+shownOf r = shown (usedImage (r .link)) (usedFuncInfo (r .link)) (usedLineInfo (r .link)) (usedPieces r)
 
 -- the callee of a call that the walk comes to
 pub record Calls (object : Object) (row slot : ℕ) : Type 0 where
@@ -52,19 +61,15 @@ pub record Refers (object : Object) (row slot : ℕ) : Type 0 where
   pub callee : ℕ
   pub is : meaning object row slot ≡ reference callee
 
--- the pieces after the root, and what they make of the three outputs
-pub record PathKept (order : Order) (o : Offered) (root : ℕ) (r : LinkResult) : Type 0 where
-  pub others : List Piece
+-- what the pieces, the root and those after it, make of an image and its records, as bytes
+pub record PathKeptBy (order : Order) (o : Offered) (root : ℕ) (image funcInfo lineInfo : List ℕ) (others : List Piece) : Type 0 where
   -- "demand 2's layout": the pieces tile the image in order, root first, and each slot is its source slot with only the permitted fields rewritten
-  pub layout : Faithful (objectOf (tablesOf order o)) root (decoded order (usedImage r)) (piece root 0 ∷ others)
-  -- counts are the layout's totals, and the records are those of the pieces
-  pub slots : length (decoded order (usedImage r)) ≡ count r 0
-  pub functions : usedFuncInfo r ≡ funcInfoBytes order (imageFunctions (tablesOf order o) root others)
-  pub functions-count : length (imageFunctions (tablesOf order o) root others) ≡ count r 1
-  pub lines : usedLineInfo r ≡ lineInfoBytes order (imageLines (tablesOf order o) root others)
-  pub lines-count : length (imageLines (tablesOf order o) root others) ≡ count r 2
+  pub layout : Faithful (objectOf (tablesOf order o)) root (decoded order image) (piece root 0 ∷ others)
+  -- the records are those of the pieces
+  pub functions : funcInfo ≡ funcInfoBytes order (imageFunctions (tablesOf order o) root others)
+  pub lines : lineInfo ≡ lineInfoBytes order (imageLines (tablesOf order o) root others)
   -- "both stand at the same slot of the same function, at equal call depth, and end together", and the references passed
-  pub path : KeepsPath (objectOf (tablesOf order o)) root (decoded order (usedImage r)) (piece root 0 ∷ others)
+  pub path : KeepsPath (objectOf (tablesOf order o)) root (decoded order image) (piece root 0 ∷ others)
   -- the source walk never comes to a call that names nothing
   pub named : (answers : List Bool) (steps row slot : ℕ) (back : List SourcePlace) (rest : List Bool)
       → sourceWalk (objectOf (tablesOf order o)) root answers steps ≡ standing (place row (pos slot)) back rest
@@ -73,3 +78,17 @@ pub record PathKept (order : Order) (o : Offered) (root : ℕ) (r : LinkResult) 
   pub referred : (answers : List Bool) (steps row slot : ℕ) (back : List SourcePlace) (rest : List Bool)
       → sourceWalk (objectOf (tablesOf order o)) root answers steps ≡ standing (place row (pos slot)) back rest
       → FunctionReference (tablesOf order o) row slot → Refers (objectOf (tablesOf order o)) row slot
+
+-- of a link's three outputs, whose counts are the layout's totals
+pub record PathKept (order : Order) (o : Offered) (root : ℕ) (r : LinkResult) : Type 0 where
+  pub others : List Piece
+  pub kept : PathKeptBy order o root (usedImage r) (usedFuncInfo r) (usedLineInfo r) others
+  pub slots : length (decoded order (usedImage r)) ≡ count r 0
+  pub functions-count : length (imageFunctions (tablesOf order o) root others) ≡ count r 1
+  pub lines-count : length (imageLines (tablesOf order o) root others) ≡ count r 2
+
+-- of an image from elsewhere, with the list that it is shown with
+pub record ShownKept (order : Order) (o : Offered) (root : ℕ) (s : Shown) : Type 0 where
+  pub others : List Piece
+  pub list : piecesOf (s .pieces) ≡ piece root 0 ∷ others
+  pub kept : PathKeptBy order o root (s .image) (s .funcInfo) (s .lineInfo) others

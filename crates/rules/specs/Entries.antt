@@ -3,11 +3,13 @@
 use mathlib.Core.Bool.{Bool, true, false, cond}
 use mathlib.Core.Option.{Option, none, some}
 use mathlib.Core.List.{List, [], _∷_, _++_}
-use Prim.Native.Nat.{ℕ, zero, suc, _+_, _/_, min}
+use Prim.Native.Nat.{ℕ, zero, suc, _+_, _*_, _/_, min}
+use lib.Dec.{ltb}
 use lib.ListN.{length}
 use Rattle.rules.specs.declared.Table.{Table}
-use Rattle.rules.specs.declared.Table.the-variants.{Instructions, FuncInfo, LineInfo}
+use Rattle.rules.specs.declared.Table.the-variants.{Functions, Instructions, FuncInfo, LineInfo}
 use Rattle.rules.specs.Object.{Insn}
+use Rattle.rules.specs.Faithful.{Piece, piece}
 use Rattle.rules.specs.Bytes.{Order, bytes4, encoded, padded}
 use Rattle.rules.specs.Link.{State, Refusal, Outcome, linked, refuses, unfinished}
 use Rattle.rules.specs.Tables.{FunctionRecord, LineRecord, Tables}
@@ -15,7 +17,8 @@ use Rattle.rules.specs.Maps as Maps
 use Rattle.rules.specs.Maps.{MapOutcome, mapped, mapStep}
 use Rattle.rules.specs.Records.{Room, imageFunctions, imageLines, linkStep}
 use Rattle.rules.specs.Answers.{Reply, reply}
-use Rattle.rules.specs.Rows.{rowSize, mostImageSlots, mostImageFunctions, mostImageLines, Offered, tablesOf, mapStepRefusal, linkRefusal}
+use Rattle.rules.specs.Rows.{rowSize, mostImageSlots, mostImageFunctions, mostImageLines, wholeRows, Offered, tablesOf, mapStepRefusal, linkRefusal}
+use Rattle.rules.specs.Pieces.{pieceSize, piecesBytes}
 
 -- records as the rows of tables 7 and 8
 abbrev pub funcInfoBytes : Order → List FunctionRecord → List ℕ
@@ -101,3 +104,40 @@ unlessLinkRefused order o root lent none = byOutcome order (tablesOf order o) ro
 
 unfoldable pub linkEntry : Order → Offered → ℕ → Outputs → LinkResult
 linkEntry order o root lent = unlessLinkRefused order o root lent (linkRefusal o root)
+
+-- ---- the link with its list (document 02, W1): "Every image we link is accepted with its true list"
+
+-- the pieces in order of placing, the root first; none of a refused link
+abbrev pub listOf : ℕ → Outcome → List Piece
+listOf root (linked final) = piece root 0 ∷ final .placed
+listOf root (refuses why) = []
+listOf root unfinished = []
+
+abbrev pub unlessListRefused : Order → Offered → ℕ → Outputs → Option Reply → List Piece
+unlessListRefused order o root lent (some r) = []
+unlessListRefused order o root lent none = listOf root (linkStep (tablesOf order o) (roomIn lent) root)
+
+unfoldable pub linkList : Order → Offered → ℕ → Outputs → List Piece
+linkList order o root lent = unlessListRefused order o root lent (linkRefusal o root)
+
+pub record PiecesResult : Type 0 where
+  pub link : LinkResult
+  pub list : List Piece
+  pub pieces : List ℕ
+
+-- a list of each function once, and of the root's copy
+abbrev pub listRoom : Offered → ℕ
+listRoom o = pieceSize * suc (wholeRows Functions (o .functions))
+
+-- 32, before every other: the buffer for the list is shorter than that; all outputs are then zero
+abbrev pub listRefused : Outputs → ℕ → PiecesResult
+listRefused lent size = record { link = refusedLink lent (reply 32 0 0 0); list = []; pieces = padded size [] }
+
+unfoldable pub linkPiecesEntry : Order → Offered → ℕ → Outputs → ℕ → PiecesResult
+linkPiecesEntry order o root lent size =
+    cond (ltb size (listRoom o)) (listRefused lent size)
+    (record {
+      link = linkEntry order o root lent;
+      list = linkList order o root lent;
+      pieces = padded size (piecesBytes (linkList order o root lent));
+    })

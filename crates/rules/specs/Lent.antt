@@ -8,6 +8,7 @@ use denote.Ref.{RefT}
 use denote.Triple.Both.{Both}
 use Rattle.rules.specs.Rows.{Offered, mapStepOffer, linkOffer}
 use Rattle.rules.specs.Entries.{Outputs}
+use Rattle.rules.specs.Examine.{Shown, shown}
 
 -- lent bytes, and their pair
 abbrev pub Bytes : Type 0
@@ -83,3 +84,12 @@ module _ {A B C : Type 0} where
 -- their lengths
 abbrev pub lentBy : Buffers → Outputs
 lentBy b = record { image = length (b .image); funcInfo = length (b .funcs); lineInfo = length (b .lines) }
+
+-- ---- what is shown to the examiner
+
+abbrev pub offeredShown : Bytes → Bytes → Bytes → Bytes → Shown
+offeredShown image funcs lines pieces = shown (image .now) (funcs .now) (lines .now) (pieces .now)
+
+module _ {A B C D : Type 0} where
+  abbrev pub lentShown : Both Bytes A → Both Bytes B → Both Bytes C → Both Bytes D → Shown
+  lentShown image funcs lines pieces = shown (was image) (was funcs) (was lines) (was pieces)

@@ -11,6 +11,9 @@ pub mod Records
 pub mod Rows
 pub mod Lookups
 pub mod Readers
+pub mod Pieces
 pub mod Entries
+pub mod Examine
 pub mod Lent
+pub mod Accepted
 pub mod Demand3

@@ -40,8 +40,8 @@ pub enum Kind {
 // The place numbers of an answer.
 pub struct Places(pub u32, pub u32, pub u32);
 
-// Why an entry refuses, in the order of document 01's numbers, from 1 on, with the places that it names; those not named are 0.
-// Names are the crate's where it has the error.
+// Why an entry refuses, in the order of the numbers, with the places that it names; those not named are 0. Document 01's are 1 to 14; names
+// are the crate's where it has the error.
 pub enum Cause {
     // table
     TooManyRows,
@@ -64,6 +64,30 @@ pub enum Cause {
     // none: of this and the next
     NoRoot,
     BrokenInfo,
+    // 32, the caller's mistake: the list of pieces has no room. None
+    NoListRoom,
+    // What an examiner finds, from 33 on: in the image (6), its function records (7), its line records (8) or the list (9)
+    ShownTooLong,
+    // in the same, after so many whole rows
+    ShownPartial,
+    // none
+    RootNotFirst,
+    // piece, function
+    NoSuchFunction,
+    // piece, slot of the image where it should start
+    NotTiled,
+    // pieces, slot of the image where they end
+    EndsElsewhere,
+    // piece, slot, slot of the image
+    SlotChanged,
+    // piece, slot, function that its source names: of this and the next
+    NotReference,
+    WrongTarget,
+    // piece, record, record of the image: of this and the next
+    FuncInfoDiffers,
+    LineInfoDiffers,
+    // 7 or 8, first record that is over
+    RecordsOver,
 }
 
 pub struct Refusal {

@@ -16,6 +16,9 @@ pub const FUNC_INFO_SIZE: usize = 8;
 
 pub const LINE_INFO_SIZE: usize = 16;
 
+// A row of a list of pieces.
+pub const PIECE_SIZE: usize = 8;
+
 // Most rows.
 pub const MOST_CODE: usize = 64;
 

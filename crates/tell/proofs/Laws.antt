@@ -1,12 +1,14 @@
--- One turn and the end of each loop: digits, marks, and a search from the last record back.
+-- One turn and the end of each loop: digits, bytes compared, and a search from the last record back.
 -- Assumes nothing.
 use mathlib.Core.Path.{_≡_, refl, sym, ap, subst, _∙_}
+use mathlib.Core.Bool.{Bool, true, false, cond}
 use mathlib.Core.List.{List, [], _∷_}
 use Prim.Native.Nat.{ℕ, zero, suc, _+_, _-_, _*_, _≤_, _<_}
 use native.Mathlib.Omega.{arith}
 use native.Mathlib.Nat.{mul-le-mul-left, mul-suc}
 use native.Mathlib.Numerals.{add-one}
 use borrow.Author.Tests.{lt-ltb, le-ltb, le-leb, lt-leb, eq-eqb, ne-eqb}
+use lib.Dec.{eqb}
 use lib.ListN.{length, getD, drop}
 use lib.Seq.{drop-cons, drop-length}
 use Rattle.rules.specs.declared.Table.the-variants.{LineInfo}
@@ -15,7 +17,7 @@ use Rattle.rules.specs.Bytes.{little, u32At}
 use Rattle.rules.specs.Rows.{rowSize, wholeRows}
 use Rattle.tell.specs.declared.words.Number.the-variants.{Whole, Not}
 use Rattle.tell.specs.Words.{digitOf, digitsIn, numberIn}
-use Rattle.tell.specs.Marks.{markedRow, markedRows, markRecord, markRecords}
+use Rattle.tell.specs.Commands.{sameBytes}
 use Rattle.tell.specs.Listing.{lastAt, lineAt}
 
 -- ---- digits
@@ -51,29 +53,34 @@ pub digits-end : (s : List ℕ) (n i : ℕ) → i ≡ length s → digitsIn n (d
 unfolding digitsIn
 digits-end s n i e = rw (e, drop-length)
 
--- ---- marks
+-- ---- bytes compared
 
-pub rows-start : (f : List ℕ) (n : ℕ) (m : List ℕ) → markedRows f n 0 m ≡ markedRows f (n - 0) 0 m
-rows-start f n m = let e : n ≡ n - 0 = omega arith in ap (λ j. markedRows f j 0 m) e
+either-way : (t : Bool) {s : Bool} → false ≡ s → false ≡ cond t s false
+either-way true e = e
+either-way false e = refl
 
-pub rows-on : (f : List ℕ) (n k : ℕ) (m : List ℕ) → k < n → markedRows f (n - k) k m ≡ markedRows f (n - (k + 1)) (k + 1) (markedRow f m k)
-unfolding markedRows
-rows-on f n k m h = let e : n - k ≡ suc (n - (k + 1)) = omega arith in ap (λ j. markedRows f j k m) e
+pub other-length : (a b : List ℕ) → (length a ≡ length b → ⊥) → false ≡ sameBytes a b
+unfolding sameBytes
+other-length [] [] h = absurd (h refl)
+other-length [] (y ∷ ys) h = refl
+other-length (x ∷ xs) [] h = refl
+other-length (x ∷ xs) (y ∷ ys) h =
+    either-way (eqb x y) (other-length xs ys (λ e. h (ap suc e)))
 
-pub rows-end : (f : List ℕ) (n k : ℕ) (m : List ℕ) → n ≤ k → markedRows f (n - k) k m ≡ m
-unfolding markedRows
-rows-end f n k m h = let e : n - k ≡ 0 = omega arith in ap (λ j. markedRows f j k m) e
+module _ (a b : List ℕ) (i : ℕ) (in-a : i < length a) (in-b : i < length b) where
+  pub bytes-differ : (getD a i 0 ≡ getD b i 0 → ⊥) → sameBytes (drop i a) (drop i b) ≡ false
+  unfolding sameBytes
+  bytes-differ h = rw (drop-cons a i 0, drop-cons b i 0, ne-eqb (getD a i 0) (getD b i 0) h)
 
-pub records-start : (n : ℕ) (m : List ℕ) → markRecords n 0 m ≡ markRecords (n - 0) 0 m
-records-start n m = let e : n ≡ n - 0 = omega arith in ap (λ j. markRecords j 0 m) e
+  pub bytes-on : getD a i 0 ≡ getD b i 0 → sameBytes (drop i a) (drop i b) ≡ sameBytes (drop (i + 1) a) (drop (i + 1) b)
+  unfolding sameBytes
+  bytes-on e = rw (add-one, drop-cons a i 0, drop-cons b i 0, eq-eqb (getD a i 0) (getD b i 0) e)
 
-pub records-on : (n k : ℕ) (m : List ℕ) → k < n → markRecords (n - k) k m ≡ markRecords (n - (k + 1)) (k + 1) (markRecord m k)
-unfolding markRecords
-records-on n k m h = let e : n - k ≡ suc (n - (k + 1)) = omega arith in ap (λ j. markRecords j k m) e
-
-pub records-end : (n k : ℕ) (m : List ℕ) → n ≤ k → markRecords (n - k) k m ≡ m
-unfolding markRecords
-records-end n k m h = let e : n - k ≡ 0 = omega arith in ap (λ j. markRecords j k m) e
+pub bytes-end : (a b : List ℕ) (i : ℕ) → i ≡ length a → i ≡ length b → sameBytes (drop i a) (drop i b) ≡ true
+unfolding sameBytes
+bytes-end a b i e f =
+    ap (λ (xs : List ℕ). sameBytes xs (drop i b)) (ap (λ (n : ℕ). drop n a) e ∙ drop-length a)
+    ∙ ap (sameBytes []) (ap (λ (n : ℕ). drop n b) f ∙ drop-length b)
 
 -- ---- the last record at or before a slot
 
@@ -85,24 +92,24 @@ stands size k end len p l h =
     let f : size * (k - 1) + size ≡ size * k = sym (mul-suc size (k - 1)) ∙ ap (λ (x : ℕ). size * x) e in
     omega arith
 
-module _ (r : List ℕ) (size from slot k : ℕ) (after : from < k) where
-  step : lastAt r size from slot (k - from) ≡ lastAt r size from slot (suc (k - 1 - from))
-  step = let e : k - from ≡ suc (k - 1 - from) = omega arith in ap (lastAt r size from slot) e
+module _ (r : List ℕ) (size key from slot k : ℕ) (after : from < k) where
+  step : lastAt r size key from slot (k - from) ≡ lastAt r size key from slot (suc (k - 1 - from))
+  step = let e : k - from ≡ suc (k - 1 - from) = omega arith in ap (lastAt r size key from slot) e
 
   here : from + (k - 1 - from) ≡ k - 1
   here = omega arith
 
-  pub last-hit : u32At little r (size * (k - 1)) ≤ slot → lastAt r size from slot (k - from) ≡ At (k - 1)
+  pub last-hit : u32At little r (size * (k - 1) + key) ≤ slot → lastAt r size key from slot (k - from) ≡ At (k - 1)
   unfolding lastAt
-  last-hit h = step ∙ rw (here, le-leb (u32At little r (size * (k - 1))) slot h)
+  last-hit h = step ∙ rw (here, le-leb (u32At little r (size * (k - 1) + key)) slot h)
 
-  pub last-on : slot < u32At little r (size * (k - 1)) → lastAt r size from slot (k - from) ≡ lastAt r size from slot (k - 1 - from)
+  pub last-on : slot < u32At little r (size * (k - 1) + key) → lastAt r size key from slot (k - from) ≡ lastAt r size key from slot (k - 1 - from)
   unfolding lastAt
-  last-on h = step ∙ rw (here, lt-leb (u32At little r (size * (k - 1))) slot h)
+  last-on h = step ∙ rw (here, lt-leb (u32At little r (size * (k - 1) + key)) slot h)
 
-pub last-none : (r : List ℕ) (size from slot k : ℕ) → k ≤ from → lastAt r size from slot (k - from) ≡ Nothing
+pub last-none : (r : List ℕ) (size key from slot k : ℕ) → k ≤ from → lastAt r size key from slot (k - from) ≡ Nothing
 unfolding lastAt
-last-none r size from slot k h = let e : k - from ≡ 0 = omega arith in ap (lastAt r size from slot) e
+last-none r size key from slot k h = let e : k - from ≡ 0 = omega arith in ap (lastAt r size key from slot) e
 
 pub no-less : (n : ℕ) → n - 0 ≡ n
 no-less n = omega arith
@@ -111,15 +118,15 @@ no-less n = omega arith
 
 module _ (lines : List ℕ) (own start slot : ℕ) where
   -- of the root
-  pub line-own : start ≡ 0 → own < wholeRows LineInfo lines → lastAt lines (rowSize LineInfo) 0 slot (own - 0) ≡ lineAt lines own start slot
+  pub line-own : start ≡ 0 → own < wholeRows LineInfo lines → lastAt lines (rowSize LineInfo) 0 0 slot (own - 0) ≡ lineAt lines own start slot
   unfolding lineAt
   line-own e h = rw (eq-eqb start 0 e, lt-ltb own (wholeRows LineInfo lines) h, no-less own)
 
-  pub line-all : start ≡ 0 → wholeRows LineInfo lines ≤ own → lastAt lines (rowSize LineInfo) 0 slot (wholeRows LineInfo lines - 0) ≡ lineAt lines own start slot
+  pub line-all : start ≡ 0 → wholeRows LineInfo lines ≤ own → lastAt lines (rowSize LineInfo) 0 0 slot (wholeRows LineInfo lines - 0) ≡ lineAt lines own start slot
   unfolding lineAt
   line-all e h = rw (eq-eqb start 0 e, le-ltb own (wholeRows LineInfo lines) h, no-less (wholeRows LineInfo lines))
 
   -- of another copy
-  pub line-other : (start ≡ 0 → ⊥) → lastAt lines (rowSize LineInfo) own slot (wholeRows LineInfo lines - own) ≡ lineAt lines own start slot
+  pub line-other : (start ≡ 0 → ⊥) → lastAt lines (rowSize LineInfo) 0 own slot (wholeRows LineInfo lines - own) ≡ lineAt lines own start slot
   unfolding lineAt
   line-other h = rw (ne-eqb start 0 h)

@@ -1,6 +1,7 @@
+pub mod Text
 pub mod Lines
 pub mod Files
 pub mod Words
-pub mod Marks
+pub mod Commands
 pub mod Listing
 pub mod Room

@@ -11,7 +11,7 @@ use Rattle.tell.specs.declared.lines.Words.{Words}
 
 -- the bytes that a line has room for
 abbrev pub lineRoom : ℕ
-lineRoom = 160
+lineRoom = 192
 
 -- no more of them are words than there are
 pub record Fits (words : Words) : Type 0 where

@@ -6,11 +6,13 @@ use mathlib.Core.List.{List, [], _∷_}
 use Prim.Native.Nat.{ℕ, zero, suc, _+_, _-_, _*_, _/_, _≤_}
 use lib.Dec.{eqb, leb, ltb}
 use lib.ListN.{length}
-use Rattle.rules.specs.declared.Table.the-variants.{FuncInfo, LineInfo}
+use Rattle.rules.specs.declared.Table.the-variants.{LineInfo}
 use Rattle.rules.specs.declared.Found.{Found}
 use Rattle.rules.specs.declared.Found.the-variants.{At, Nothing}
 use Rattle.rules.specs.Bytes.{little, u32At}
 use Rattle.rules.specs.Rows.{rowSize, wholeRows}
+use Rattle.rules.specs.Pieces.{pieceSize, pieceRow, pieceStart}
+use Rattle.tell.specs.Text.{bytesLine, copyLine, noCopyLine, sourceLine, noSourceLine, blankLine}
 use Rattle.tell.specs.declared.listing.Source.{Source}
 use Rattle.tell.specs.declared.listing.Source.the-variants.{Copy}
 use Rattle.tell.specs.declared.listing.Source.the-variants.{Unknown as Source·Unknown}
@@ -21,33 +23,32 @@ abbrev pub pickFound : Bool → Found → Found → Found
 pickFound true a b = a
 pickFound false a b = b
 
--- of the n records of `size` bytes from record `from` on, the last whose slot is at most `slot`
-unfoldable pub lastAt : List ℕ → ℕ → ℕ → ℕ → ℕ → Found
-lastAt records size from slot zero = Nothing
-lastAt records size from slot (suc n) =
-    pickFound (leb (u32At little records (size * (from + n))) slot) (At (from + n)) (lastAt records size from slot n)
+-- of the n records of `size` bytes from record `from` on, the last whose slot, which it has at `key`, is at most `slot`
+unfoldable pub lastAt : List ℕ → ℕ → ℕ → ℕ → ℕ → ℕ → Found
+lastAt records size key from slot zero = Nothing
+lastAt records size key from slot (suc n) =
+    pickFound (leb (u32At little records (size * (from + n) + key)) slot) (At (from + n)) (lastAt records size key from slot n)
 
 -- a record that was found stands in the bytes whole, and at or before the slot
-abbrev pub Stands : ℕ → List ℕ → ℕ → Found → Type 0
-Stands size records slot (At k) = (size * k + size ≤ length records) × (u32At little records (size * k) ≤ slot)
-Stands size records slot Nothing = Unit {0}
+abbrev pub Stands : ℕ → ℕ → List ℕ → ℕ → Found → Type 0
+Stands size key records slot (At k) = (size * k + size ≤ length records) × (u32At little records (size * k + key) ≤ slot)
+Stands size key records slot Nothing = Unit {0}
 
--- the copy that a slot belongs to: the last that starts at or before it
+-- the piece that a slot belongs to: the last that starts at or before it
 unfoldable pub pieceAt : List ℕ → ℕ → Found
-pieceAt pieces slot = lastAt pieces (rowSize FuncInfo) 0 slot (wholeRows FuncInfo pieces)
+pieceAt pieces slot = lastAt pieces pieceSize 4 0 slot (length pieces / pieceSize)
 
--- the last line record at or before a slot of the copy at `start`: of the root's `own` records for a slot of the root, else of those
+-- the last line record at or before a slot of the piece at `start`: of the root's `own` records for a slot of the root, else of those
 -- after them
 unfoldable pub lineAt : List ℕ → ℕ → ℕ → ℕ → Found
 lineAt lines own start slot =
     pickFound (eqb start 0)
-    (lastAt lines (rowSize LineInfo) 0 slot (cond (ltb own (wholeRows LineInfo lines)) own (wholeRows LineInfo lines)))
-    (lastAt lines (rowSize LineInfo) own slot (wholeRows LineInfo lines - own))
+    (lastAt lines (rowSize LineInfo) 0 0 slot (cond (ltb own (wholeRows LineInfo lines)) own (wholeRows LineInfo lines)))
+    (lastAt lines (rowSize LineInfo) 0 own slot (wholeRows LineInfo lines - own))
 
--- the function of that copy, where the copy starts, and the function's slot: pieces are function records, with the row as type
+-- the function of that piece, where the piece starts, and the function's slot
 abbrev pub sourceOf : List ℕ → ℕ → Found → Source
-sourceOf pieces slot (At k) =
-    Copy (u32At little pieces (rowSize FuncInfo * k + 4)) (u32At little pieces (rowSize FuncInfo * k)) (slot - u32At little pieces (rowSize FuncInfo * k))
+sourceOf pieces slot (At k) = Copy (pieceRow pieces k) (pieceStart pieces k) (slot - pieceStart pieces k)
 sourceOf pieces slot Nothing = Source·Unknown
 
 unfoldable pub sourceAt : List ℕ → ℕ → Source
@@ -57,7 +58,7 @@ abbrev pub pickLine : Bool → Line → Line → Line
 pickLine true a b = a
 pickLine false a b = b
 
--- "slot, file, line, column"; a record that stands before the copy's start is another copy's
+-- "slot, file, line, column"; a record that stands before the piece's start is another piece's
 abbrev pub lineIn : List ℕ → ℕ → Found → Line
 lineIn lines start (At k) =
     pickLine (ltb (u32At little lines (rowSize LineInfo * k)) start) Line·Unknown
@@ -67,12 +68,12 @@ lineIn lines start Nothing = Line·Unknown
 unfoldable pub lineOf : List ℕ → ℕ → ℕ → ℕ → Line
 lineOf lines own start slot = lineIn lines start (lineAt lines own start slot)
 
--- ---- a line of the listing: lines 36 to 40 of the text, and three numbers to each
+-- ---- a line of the listing, and three numbers to each line of the text
 
 -- a copy's: "file, line, column", or that there is no line record
 abbrev pub copyLines : Line → List ℕ
-copyLines (Line·At file line column) = 36 ∷ 37 ∷ 39 ∷ 52 ∷ 52 ∷ []
-copyLines Line·Unknown = 36 ∷ 37 ∷ 40 ∷ 52 ∷ 52 ∷ []
+copyLines (Line·At file line column) = bytesLine ∷ copyLine ∷ sourceLine ∷ blankLine ∷ blankLine ∷ []
+copyLines Line·Unknown = bytesLine ∷ copyLine ∷ noSourceLine ∷ blankLine ∷ blankLine ∷ []
 
 abbrev pub copyNumbers : ℕ → ℕ → ℕ → ℕ → ℕ → Line → List ℕ
 copyNumbers slot low high function from (Line·At file line column) =
@@ -84,4 +85,4 @@ abbrev pub RowOf : ℕ → List ℕ → ℕ → ℕ → ℕ → Source → List 
 RowOf own records slot low high (Copy function start from) lines numbers =
     (lines ≡ copyLines (lineOf records own start slot)) × (numbers ≡ copyNumbers slot low high function from (lineOf records own start slot))
 RowOf own records slot low high Source·Unknown lines numbers =
-    (lines ≡ 36 ∷ 38 ∷ 52 ∷ 52 ∷ 52 ∷ []) × (numbers ≡ slot ∷ low ∷ high ∷ 0 ∷ 0 ∷ 0 ∷ 0 ∷ 0 ∷ 0 ∷ 0 ∷ 0 ∷ 0 ∷ 0 ∷ 0 ∷ 0 ∷ [])
+    (lines ≡ bytesLine ∷ noCopyLine ∷ blankLine ∷ blankLine ∷ blankLine ∷ []) × (numbers ≡ slot ∷ low ∷ high ∷ 0 ∷ 0 ∷ 0 ∷ 0 ∷ 0 ∷ 0 ∷ 0 ∷ 0 ∷ 0 ∷ 0 ∷ 0 ∷ 0 ∷ [])

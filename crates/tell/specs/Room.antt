@@ -6,13 +6,6 @@ use Prim.Native.Nat.{ℕ}
 abbrev pub ownMost : ℕ
 ownMost = 65536
 
--- the buffer that holds the marked table 3, and the one for its marks
-abbrev pub functionsRoom : ℕ
-functionsRoom = 2048
-
-abbrev pub marksRoom : ℕ
-marksRoom = 512
-
 -- a tables file as it is held, and table 6 beside it
 abbrev pub fileRoom : ℕ
 fileRoom = 25888

@@ -1,33 +1,52 @@
--- What a step's answer is told with: lines of a text, by document 01's table "Numbers returned". And a number in digits.
+-- What an answer is told with: lines of a text, by document 01's table "Numbers returned" and, from 32 on, ours (rules, specs/Answers). And a
+-- number in digits.
 -- Assumes nothing.
-use mathlib.Core.Bool.{Bool, true, false, cond}
+use mathlib.Core.Bool.{Bool, true, false, cond, _||_}
 use mathlib.Core.List.{List, [], _∷_}
 use Prim.Native.Nat.{ℕ, _+_, _-_, _*_}
 use lib.Dec.{eqb, ltb}
+use lib.ListN.{getD}
 use Rattle.tell.specs.declared.words.Told.{Told}
 use Rattle.tell.specs.declared.words.Number.{Number}
 use Rattle.tell.specs.declared.words.Number.the-variants.{Whole, Not}
+use Rattle.tell.specs.Text.{tableLine, endLine, rowLine, slotLine, callLine, functionLine, recordLine, afterLine, overLine, pieceLine, startsLine, endsLine, pieceSlotLine, namesLine, pieceRecordLine, blankLine}
 
 -- ---- an answer
 
--- the lines that name places: 27 none, 28 a row, 29 function and slot, 30 caller and slot, 31 a function, 32 function and line record
-abbrev pub placeLine : ℕ → ℕ
-placeLine n =
-    cond (eqb n 2) 28
-    (cond (eqb n 10) 30 (cond (eqb n 11) 31 (cond (eqb n 12) 32 (cond (ltb n 3) 27 (cond (ltb 12 n) 27 29)))))
+-- the line that says why
+abbrev pub reasonLine : ℕ → ℕ
+reasonLine n = cond (ltb 31 n) (n - 17) n
 
--- the head, then "link: slots, function records, line records; map step: relocations applied", or the reason and the places: 1 "table, 0";
--- 2 "table, row"; 3 to 9 "function, slot"; 10 "caller, slot"; 11 "function being added, 0"; 12 "function, record". Line 18 ends in a
--- table's number, and the table's name stands so many lines after it; line 52 is empty
-abbrev pub answerLines : Told → ℕ → ℕ → List ℕ
-answerLines t head done =
-    cond (eqb (t .number) 0) (head ∷ done ∷ 52 ∷ 52 ∷ 52 ∷ [])
-    (cond (ltb 2 (t .number)) (head ∷ t .number ∷ placeLine (t .number) ∷ 52 ∷ 52 ∷ [])
-    (head ∷ t .number ∷ 18 ∷ (18 + t .a) ∷ placeLine (t .number) ∷ []))
+-- by that line, the one that names the places: 2 a row; 3 to 9 function and slot; 10 caller and slot; 11 a function; 12 function and line record.
+-- Then 34 whole rows; 36 piece and function; 37 and 38 pieces and a slot of the image; 39 piece, slot and slot of the image; 40 and 41 piece,
+-- slot and function; 42 and 43 piece, record and record of the image; 44 a record
+abbrev pub placeLines : List ℕ
+placeLines =
+    endLine ∷ endLine ∷ rowLine ∷ slotLine ∷ slotLine ∷ slotLine ∷ slotLine ∷ slotLine ∷ slotLine ∷ slotLine ∷ callLine ∷ functionLine ∷ recordLine ∷ endLine ∷ endLine
+    ∷ endLine ∷ endLine ∷ afterLine ∷ endLine ∷ pieceLine ∷ startsLine ∷ endsLine ∷ pieceSlotLine ∷ namesLine ∷ namesLine ∷ pieceRecordLine ∷ pieceRecordLine ∷ overLine ∷ []
+
+abbrev pub placeLine : ℕ → ℕ
+placeLine k = cond (ltb k 28) (getD placeLines k 0) endLine
+
+-- 33, 34 and 44 name a run of what is shown: 6 to 9
+abbrev pub namesRun : ℕ → Bool
+namesRun n = eqb n 33 || (eqb n 34 || eqb n 44)
+
+-- how it begins, done or refused; then "link: slots, function records, line records; map step: relocations applied", pieces for an examination, or the
+-- reason and the places: 1 "table, 0"; 2 "table, row"; 3 to 9 "function, slot"; 10 "caller, slot"; 11 "function being added, 0"; 12
+-- "function, record"
+abbrev pub answerLines : Told → ℕ → ℕ → ℕ → List ℕ
+answerLines t accepts refuses done =
+    cond (eqb (t .number) 0) (accepts ∷ done ∷ blankLine ∷ blankLine ∷ blankLine ∷ [])
+    (cond (ltb (t .number) 3)
+    (refuses ∷ reasonLine (t .number) ∷ tableLine ∷ (tableLine + t .a) ∷ placeLine (reasonLine (t .number)) ∷ [])
+    (cond (namesRun (t .number))
+    (refuses ∷ reasonLine (t .number) ∷ (tableLine + t .a) ∷ placeLine (reasonLine (t .number)) ∷ blankLine ∷ [])
+    (refuses ∷ reasonLine (t .number) ∷ placeLine (reasonLine (t .number)) ∷ blankLine ∷ blankLine ∷ [])))
 
 -- three to each of those lines
 abbrev pub answerNumbers : Told → ℕ → List ℕ
-answerNumbers t root = root ∷ 0 ∷ 0 ∷ t .a ∷ t .b ∷ t .c ∷ t .a ∷ t .b ∷ 0 ∷ 0 ∷ 0 ∷ 0 ∷ t .b ∷ 0 ∷ 0 ∷ []
+answerNumbers t root = root ∷ 0 ∷ 0 ∷ t .a ∷ t .b ∷ t .c ∷ t .a ∷ t .b ∷ t .c ∷ t .b ∷ 0 ∷ 0 ∷ t .b ∷ 0 ∷ 0 ∷ []
 
 -- ---- decimal digits, one at least, that a u32 holds
 

@@ -2,8 +2,9 @@
 ghost use mathlib.Core.Path.{_≡_};
 ghost use Prim.Native.Nat.{_*_, _+_, _-_, _≤_};
 ghost use lib.ListN.{length};
-ghost use Rattle.rules.specs.declared.Table.the-variants.{FuncInfo, LineInfo};
+ghost use Rattle.rules.specs.declared.Table.the-variants.{LineInfo};
 ghost use Rattle.rules.specs.Rows.{rowSize};
+ghost use Rattle.rules.specs.Pieces.{pieceSize};
 ghost use Rattle.tell.specs.Listing.{lastAt, pieceAt, lineAt, Stands, sourceOf, sourceAt, lineIn, lineOf};
 ghost use Rattle.tell.specs.Listing.{copyLines, copyNumbers, RowOf};
 ghost use Rattle.rules.specs.Bytes.{little, u32At};
@@ -16,50 +17,56 @@ use crate::text::NO_PLACE;
 use crate::text::PLACE;
 use crate::words::Sentence;
 use rules::Found;
-use rules::limits::FUNC_INFO_SIZE;
 use rules::limits::LINE_INFO_SIZE;
+use rules::limits::PIECE_SIZE;
 use wire::u32_at;
 
-// The last of the records from `from` to `end`, of `size` bytes each, that stands at or before a slot.
-pub fn last_at(records: &[u8], size: usize, from: usize, end: usize, slot: u32) -> Found
-    requires { ⌜ (4 ≤ size) × (size * end ≤ length (now records)) ⌝ }
-    ensures { λ r. ⌜ (r ≡ lastAt (now (records .entry)) size from slot (end - from)) × Stands size (now (records .entry)) slot r ⌝ }
+// Where a record has its slot, and a piece its start.
+const RECORD_SLOT: usize = 0;
+
+const PIECE_START: usize = 4;
+
+// The last of the records from `from` to `end`, of `size` bytes each, that stands at or before a slot: its own is at `key`.
+pub fn last_at(records: &[u8], size: usize, key: usize, from: usize, end: usize, slot: u32) -> Found
+    requires { ⌜ (key + 4 ≤ size) × (size * end ≤ length (now records)) ⌝ }
+    ensures { λ r. ⌜ (r ≡ lastAt (now (records .entry)) size key from slot (end - from)) × Stands size key (now (records .entry)) slot r ⌝ }
 {
     let mut k = end;
     while k > from {
         k -= 1;
-        if u32_at(records, size * k) <= slot {
+        if u32_at(records, size * k + key) <= slot {
             return Found::At(k);
         }
     }
     Found::Nothing
 }
 
-// The copy that a slot belongs to.
+// The piece that a slot belongs to.
 pub fn piece_at(pieces: &[u8], slot: u32) -> Found
-    ensures { λ r. ⌜ (r ≡ pieceAt (now (pieces .entry)) slot) × Stands (rowSize FuncInfo) (now (pieces .entry)) slot r ⌝ }
+    ensures { λ r. ⌜ (r ≡ pieceAt (now (pieces .entry)) slot) × Stands pieceSize 4 (now (pieces .entry)) slot r ⌝ }
 {
     last_at(
         pieces,
-        FUNC_INFO_SIZE,
+        PIECE_SIZE,
+        PIECE_START,
         0,
-        pieces.len() / FUNC_INFO_SIZE,
+        pieces.len() / PIECE_SIZE,
         slot,
     )
 }
 
-// The last line record at or before a slot that belongs to the copy at `start`: the root's own records come first.
+// The last line record at or before a slot that belongs to the piece at `start`: the root's own records come first.
 pub fn line_at(lines: &[u8], own: usize, start: u32, slot: u32) -> Found
-    ensures { λ r. ⌜ (r ≡ lineAt (now (lines .entry)) own start slot) × Stands (rowSize LineInfo) (now (lines .entry)) slot r ⌝ }
+    ensures { λ r. ⌜ (r ≡ lineAt (now (lines .entry)) own start slot) × Stands (rowSize LineInfo) 0 (now (lines .entry)) slot r ⌝ }
 {
     let n = lines.len() / LINE_INFO_SIZE;
     if start == 0 {
         if own < n {
-            return last_at(lines, LINE_INFO_SIZE, 0, own, slot);
+            return last_at(lines, LINE_INFO_SIZE, RECORD_SLOT, 0, own, slot);
         }
-        return last_at(lines, LINE_INFO_SIZE, 0, n, slot);
+        return last_at(lines, LINE_INFO_SIZE, RECORD_SLOT, 0, n, slot);
     }
-    last_at(lines, LINE_INFO_SIZE, own, n, slot)
+    last_at(lines, LINE_INFO_SIZE, RECORD_SLOT, own, n, slot)
 }
 
 pub enum Source {
@@ -72,13 +79,13 @@ pub enum Source {
 }
 
 fn source_of(pieces: &[u8], found: Found, slot: u32) -> Source
-    requires { ⌜ Stands (rowSize FuncInfo) (now pieces) slot found ⌝ }
+    requires { ⌜ Stands pieceSize 4 (now pieces) slot found ⌝ }
     ensures { λ r. ⌜ r ≡ sourceOf (now (pieces .entry)) slot found ⌝ }
 {
     match found {
         Found::At(k) => {
-            let start = u32_at(pieces, FUNC_INFO_SIZE * k);
-            let function = u32_at(pieces, FUNC_INFO_SIZE * k + 4);
+            let function = u32_at(pieces, PIECE_SIZE * k);
+            let start = u32_at(pieces, PIECE_SIZE * k + PIECE_START);
             return Source::Copy {
                 function,
                 start,
@@ -91,7 +98,7 @@ fn source_of(pieces: &[u8], found: Found, slot: u32) -> Source
     }
 }
 
-// The function's row, where its copy starts in the image, and the slot of the function that stands there.
+// The function's row, where its piece starts in the image, and the slot of the function that stands there.
 pub fn source_at(pieces: &[u8], slot: u32) -> Source
     ensures { λ r. ⌜ r ≡ sourceAt (now (pieces .entry)) slot ⌝ }
 {
@@ -103,9 +110,9 @@ pub enum Line {
     Unknown,
 }
 
-// A record that stands before the copy's start is another copy's.
+// A record that stands before the piece's start is another piece's.
 fn line_in(lines: &[u8], found: Found, start: u32, slot: u32) -> Line
-    requires { ⌜ Stands (rowSize LineInfo) (now lines) slot found ⌝ }
+    requires { ⌜ Stands (rowSize LineInfo) 0 (now lines) slot found ⌝ }
     ensures { λ r. ⌜ r ≡ lineIn (now (lines .entry)) start found ⌝ }
 {
     match found {
@@ -182,7 +189,7 @@ fn copy_row(slot: u32, low: u32, high: u32, function: u32, from: u32, line: Line
     }
 }
 
-// `own` is the number of the root's line records; `pieces` are the copies' starts and rows.
+// `own` is the number of the root's line records; `pieces` is the list that the link gave.
 pub fn row(own: usize, pieces: &[u8], image: &[u8], lines: &[u8], slot: usize) -> Sentence
     requires { ⌜ (8 * slot + 8 ≤ length (now image)) × (length (now image) ≤ ownMost) ⌝ }
     ensures { λ r. ⌜ RowOf own (now (lines .entry)) slot (u32At little (now (image .entry)) (8 * slot))

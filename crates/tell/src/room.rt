@@ -27,21 +27,24 @@ pub const IMAGE_FUNC_INFO: usize = 2048;
 
 pub const IMAGE_LINE_INFO: usize = 8192;
 
-// The marks: a record for each function, and for each copy that the image has, a second one of the root among them.
-pub const MARKS: usize = 512;
-
+// The list of its pieces: each function of table 3 once, and the root's copy.
 pub const PIECES: usize = 520;
 
-// The two files' lengths, their paths, the root's digits, a line of words.
+// What is shown to be examined, where it is not as much: one function record more than an image may have, so that it is found; 500 pieces.
+pub const SHOWN_FUNC_INFO: usize = 2056;
+
+pub const SHOWN_PIECES: usize = 4000;
+
+// The two files' lengths, a path, a word of the command or the root's digits, a line of words.
 pub const TABLE_LENGTHS: usize = 32;
 
 pub const IMAGE_LENGTHS: usize = 12;
 
 pub const PATH: usize = 512;
 
-pub const ROOT: usize = 16;
+pub const WORD: usize = 16;
 
-pub const LINE: usize = 160;
+pub const LINE: usize = 192;
 
 // A tables file as it is held: the lengths and all tables but the sixth.
 pub const FILE: usize = TABLE_LENGTHS
@@ -65,24 +68,20 @@ pub const ROOM: [u32; 8] = [
     LINE_INFO as u32,
 ];
 
-// Table 3 is held twice, as it was read and marked; the tables' lengths, as they were read and with the tables; the image's lengths, as
-// they are made and written; and there are two paths. A line is counted once: DECISIONS.md says what its copies come to.
-pub fn own_bytes() -> usize
-    ensures { λ r. ⌜ (r ≡ 65040) × (r ≤ ownMost) ⌝ }
+// What both subcommands hold: the tables' lengths as they were read and with the tables, one path at a time, and a line, which is counted
+// once: DECISIONS.md says what its copies come to.
+pub const BOTH: usize = FILE + TABLE_LENGTHS + INSTRUCTIONS + PATH + WORD + LINE;
+
+// What link holds. The image's lengths are there as they are made and as they are written.
+pub fn link_bytes() -> usize
+    ensures { λ r. ⌜ (r ≡ 62000) × (r ≤ ownMost) ⌝ }
 {
-    FILE
-        + TABLE_LENGTHS
-        + INSTRUCTIONS
-        + FUNCTIONS
-        + MARKS
-        + PIECES
-        + IMAGE
-        + IMAGE_FUNC_INFO
-        + IMAGE_LINE_INFO
-        + IMAGE_LENGTHS
-        + IMAGE_LENGTHS
-        + PATH
-        + PATH
-        + ROOT
-        + LINE
+    BOTH + IMAGE + IMAGE_FUNC_INFO + IMAGE_LINE_INFO + PIECES + IMAGE_LENGTHS + IMAGE_LENGTHS
+}
+
+// What examine holds.
+pub fn examine_bytes() -> usize
+    ensures { λ r. ⌜ (r ≡ 65476) × (r ≤ ownMost) ⌝ }
+{
+    BOTH + IMAGE + SHOWN_FUNC_INFO + IMAGE_LINE_INFO + SHOWN_PIECES + IMAGE_LENGTHS
 }

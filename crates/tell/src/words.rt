@@ -2,16 +2,24 @@
 ghost use mathlib.Core.Path.{_≡_};
 ghost use mathlib.Core.List.{[], _∷_};
 ghost use Prim.Native.Nat.{_+_, _≤_};
-ghost use lib.ListN.{replicate};
 ghost use Rattle.rules.specs.Answers.{reply, replyOf};
-ghost use Rattle.tell.specs.Words.{digitOf, numberIn, placeLine, answerLines, answerNumbers};
+ghost use Rattle.tell.specs.Text.{tableLine, blankLine};
+ghost use Rattle.tell.specs.Words.{digitOf, numberIn, reasonLine, placeLine, namesRun, answerLines, answerNumbers};
+use crate::text::AFTER;
 use crate::text::BLANK;
 use crate::text::CALL;
 use crate::text::END;
+use crate::text::ENDS;
 use crate::text::FUNCTION;
+use crate::text::NAMES;
+use crate::text::OVER;
+use crate::text::PIECE;
+use crate::text::PIECE_RECORD;
+use crate::text::PIECE_SLOT;
 use crate::text::RECORD;
 use crate::text::ROW;
 use crate::text::SLOT;
+use crate::text::STARTS;
 use crate::text::TABLE;
 use answers::number;
 use answers::places;
@@ -38,29 +46,64 @@ pub fn told_of(answer: Answer) -> Told
     }
 }
 
-// The text's line that names the places of a refusal by its number, but for a table.
-fn place_line(number: u32) -> usize
-    ensures { λ r. ⌜ r ≡ placeLine number ⌝ }
+// The text's line that says why: numbers 1 to 14, then 32 to 44.
+fn reason_line(number: u32) -> usize
+    ensures { λ r. ⌜ r ≡ reasonLine number ⌝ }
 {
-    if number == 2 {
-        return ROW;
+    let n = number as usize;
+    if n > 31 {
+        return n - 17;
     }
-    if number == 10 {
-        return CALL;
+    n
+}
+
+// By that line, the one that names the places, but for a table or a run.
+const PLACE_LINES: [usize; 28] = [
+    END,
+    END,
+    ROW,
+    SLOT,
+    SLOT,
+    SLOT,
+    SLOT,
+    SLOT,
+    SLOT,
+    SLOT,
+    CALL,
+    FUNCTION,
+    RECORD,
+    END,
+    END,
+    END,
+    END,
+    AFTER,
+    END,
+    PIECE,
+    STARTS,
+    ENDS,
+    PIECE_SLOT,
+    NAMES,
+    NAMES,
+    PIECE_RECORD,
+    PIECE_RECORD,
+    OVER,
+];
+
+fn place_line(k: usize) -> usize
+    ensures { λ r. ⌜ r ≡ placeLine k ⌝ }
+{
+    if k < 28 {
+        let places = PLACE_LINES;
+        return places[k];
     }
-    if number == 11 {
-        return FUNCTION;
-    }
-    if number == 12 {
-        return RECORD;
-    }
-    if number < 3 {
-        return END;
-    }
-    if number > 12 {
-        return END;
-    }
-    SLOT
+    END
+}
+
+// Whether a number names a run of what is shown: too long, not whole, a record over.
+fn names_run(number: u32) -> bool
+    ensures { λ r. ⌜ r ≡ namesRun number ⌝ }
+{
+    (number == 33) | ((number == 34) | (number == 44))
 }
 
 // Lines of the text, and three numbers to each.
@@ -69,25 +112,29 @@ pub struct Sentence {
     pub numbers: [u32; 15],
 }
 
-fn answer_lines(told: Told, head: usize, done: usize) -> [usize; 5]
-    ensures { λ r. ⌜ r ≡ answerLines told head done ⌝ }
+fn answer_lines(told: Told, accepts: usize, refuses: usize, done: usize) -> [usize; 5]
+    ensures { λ r. ⌜ r ≡ answerLines told accepts refuses done ⌝ }
 {
-    let number = told.number as usize;
-    let place = place_line(told.number);
-    if number == 0 {
-        return [head, done, BLANK, BLANK, BLANK];
+    let why = reason_line(told.number);
+    let place = place_line(why);
+    let name = TABLE + told.a as usize;
+    if told.number == 0 {
+        return [accepts, done, BLANK, BLANK, BLANK];
     }
-    if number > 2 {
-        return [head, number, place, BLANK, BLANK];
+    if told.number < 3 {
+        return [refuses, why, TABLE, name, place];
     }
-    [head, number, TABLE, TABLE + told.a as usize, place]
+    if names_run(told.number) {
+        return [refuses, why, name, place, BLANK];
+    }
+    [refuses, why, place, BLANK, BLANK]
 }
 
-// What a step answered: `head` is the line that its words begin with, `done` the one that a done step is told with.
-pub fn answer(told: Told, root: u32, head: usize, done: usize) -> Sentence
-    ensures { λ r. ⌜ (r .lines ≡ answerLines told head done) × (r .numbers ≡ answerNumbers told root) ⌝ }
+// What a step answered: `accepts` and `refuses` are the lines that its words begin with, `done` the one that a done step is told with.
+pub fn answer(told: Told, root: u32, accepts: usize, refuses: usize, done: usize) -> Sentence
+    ensures { λ r. ⌜ (r .lines ≡ answerLines told accepts refuses done) × (r .numbers ≡ answerNumbers told root) ⌝ }
 {
-    let lines = answer_lines(told, head, done);
+    let lines = answer_lines(told, accepts, refuses, done);
     Sentence {
         lines,
         numbers: [
@@ -99,8 +146,8 @@ pub fn answer(told: Told, root: u32, head: usize, done: usize) -> Sentence
             told.c,
             told.a,
             told.b,
-            0,
-            0,
+            told.c,
+            told.b,
             0,
             0,
             told.b,
@@ -110,24 +157,25 @@ pub fn answer(told: Told, root: u32, head: usize, done: usize) -> Sentence
     }
 }
 
-// A line that ends in a table's number, the table's name, and a line for two numbers.
-pub fn of_table(before: usize, table: u32, after: usize, a: u32, b: u32) -> Sentence
-    ensures { λ r. ⌜ (r .lines ≡ before ∷ (18 + table) ∷ after ∷ 52 ∷ 52 ∷ [])
-        × (r .numbers ≡ table ∷ 0 ∷ 0 ∷ 0 ∷ 0 ∷ 0 ∷ a ∷ b ∷ 0 ∷ 0 ∷ 0 ∷ 0 ∷ 0 ∷ 0 ∷ 0 ∷ []) ⌝ }
+// What is wrong with a file: the line that names it, and one with a number.
+pub fn of_file(file: usize, what: usize, n: u32) -> Sentence
+    ensures { λ r. ⌜ (r .lines ≡ file ∷ what ∷ blankLine ∷ blankLine ∷ blankLine ∷ [])
+        × (r .numbers ≡ 0 ∷ 0 ∷ 0 ∷ n ∷ 0 ∷ 0 ∷ 0 ∷ 0 ∷ 0 ∷ 0 ∷ 0 ∷ 0 ∷ 0 ∷ 0 ∷ 0 ∷ []) ⌝ }
 {
     Sentence {
-        lines: [before, TABLE + table as usize, after, BLANK, BLANK],
-        numbers: [table, 0, 0, 0, 0, 0, a, b, 0, 0, 0, 0, 0, 0, 0],
+        lines: [file, what, BLANK, BLANK, BLANK],
+        numbers: [0, 0, 0, n, 0, 0, 0, 0, 0, 0, 0, 0, 0, 0, 0],
     }
 }
 
-// A line alone.
-pub fn alone(k: usize) -> Sentence
-    ensures { λ r. ⌜ (r .lines ≡ k ∷ 52 ∷ 52 ∷ 52 ∷ 52 ∷ []) × (r .numbers ≡ replicate 15 0) ⌝ }
+// And with a table or a run in it, by its name: then a line for two numbers.
+pub fn of_part(file: usize, what: usize, table: u32, after: usize, a: u32, b: u32) -> Sentence
+    ensures { λ r. ⌜ (r .lines ≡ file ∷ what ∷ (tableLine + table) ∷ after ∷ blankLine ∷ [])
+        × (r .numbers ≡ 0 ∷ 0 ∷ 0 ∷ table ∷ 0 ∷ 0 ∷ 0 ∷ 0 ∷ 0 ∷ a ∷ b ∷ 0 ∷ 0 ∷ 0 ∷ 0 ∷ []) ⌝ }
 {
     Sentence {
-        lines: [k, BLANK, BLANK, BLANK, BLANK],
-        numbers: [0; 15],
+        lines: [file, what, TABLE + table as usize, after, BLANK],
+        numbers: [0, 0, 0, table, 0, 0, 0, 0, 0, a, b, 0, 0, 0, 0],
     }
 }
 

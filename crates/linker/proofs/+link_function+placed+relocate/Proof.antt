@@ -22,7 +22,7 @@ use Rattle.resolve.specs.Means.{Means}
 use Rattle.resolve.specs.Resolves.{Resolves}
 use Rattle.rows.proofs.Laws.{found-some, found-none}
 use Rattle.linker.specs.Linker.{unplaced}
-use Rattle.linker.proofs.Cursor.{Behind}
+use Rattle.rows.proofs.Cursor.{Behind}
 use Rattle.linker.proofs.Steps.{Inv, told-refused}
 use Rattle.linker.proofs.Steps as steps
 use Rattle.linker.proofs.Ways as ways

@@ -43,46 +43,46 @@ abbrev start-from-relocate : tie.After-relocate → tie.Start
 start-from-relocate c = start-from-begin (c .before .before .before .before .before .before .before .before .before .before .before .before)
 
 abbrev start-from-known-told : tie.After-known-told → tie.Start
-start-from-known-told c = start-from-relocate (c .before .before .before .before .before .before .before .before .before)
+start-from-known-told c = start-from-relocate (c .before .before .before .before .before .before .before .before .before .before .before)
 
 abbrev has-room-from-relocate : tie.After-relocate → tie.After-has-room
 has-room-from-relocate c = has-room-from-begin (c .before .before .before .before .before .before .before .before .before .before .before .before)
 
 abbrev has-room-from-known-told : tie.After-known-told → tie.After-has-room
-has-room-from-known-told c = has-room-from-relocate (c .before .before .before .before .before .before .before .before .before)
+has-room-from-known-told c = has-room-from-relocate (c .before .before .before .before .before .before .before .before .before .before .before)
 
 abbrev else1-from-relocate : tie.After-relocate → tie.Else1
 else1-from-relocate c = else1-from-begin (c .before .before .before .before .before .before .before .before .before .before .before .before)
 
 abbrev else1-from-known-told : tie.After-known-told → tie.Else1
-else1-from-known-told c = else1-from-relocate (c .before .before .before .before .before .before .before .before .before)
+else1-from-known-told c = else1-from-relocate (c .before .before .before .before .before .before .before .before .before .before .before)
 
 abbrev begin-from-relocate : tie.After-relocate → tie.After-begin
 begin-from-relocate c = c .before .before .before .before .before .before .before .before .before .before .before .before
 
 abbrev begin-from-known-told : tie.After-known-told → tie.After-begin
-begin-from-known-told c = begin-from-relocate (c .before .before .before .before .before .before .before .before .before)
+begin-from-known-told c = begin-from-relocate (c .before .before .before .before .before .before .before .before .before .before .before)
 
 abbrev relocate-from-known-told : tie.After-known-told → tie.After-relocate
-relocate-from-known-told c = c .before .before .before .before .before .before .before .before .before
+relocate-from-known-told c = c .before .before .before .before .before .before .before .before .before .before .before
 
 abbrev start-from-enum-told : tie.After-enum-told → tie.Start
-start-from-enum-told c = start-from-relocate (c .before .before .before .before .before .before .before .before)
+start-from-enum-told c = start-from-relocate (c .before .before .before .before .before .before .before .before .before .before)
 
 abbrev has-room-from-enum-told : tie.After-enum-told → tie.After-has-room
-has-room-from-enum-told c = has-room-from-relocate (c .before .before .before .before .before .before .before .before)
+has-room-from-enum-told c = has-room-from-relocate (c .before .before .before .before .before .before .before .before .before .before)
 
 abbrev else1-from-enum-told : tie.After-enum-told → tie.Else1
-else1-from-enum-told c = else1-from-relocate (c .before .before .before .before .before .before .before .before)
+else1-from-enum-told c = else1-from-relocate (c .before .before .before .before .before .before .before .before .before .before)
 
 abbrev begin-from-enum-told : tie.After-enum-told → tie.After-begin
-begin-from-enum-told c = begin-from-relocate (c .before .before .before .before .before .before .before .before)
+begin-from-enum-told c = begin-from-relocate (c .before .before .before .before .before .before .before .before .before .before)
 
 abbrev relocate-from-enum-told : tie.After-enum-told → tie.After-relocate
-relocate-from-enum-told c = c .before .before .before .before .before .before .before .before
+relocate-from-enum-told c = c .before .before .before .before .before .before .before .before .before .before
 
 abbrev slice-known7-from-enum-told : tie.After-enum-told → tie.After-slice-known7
-slice-known7-from-enum-told c = c .before .before .before .before .before .before
+slice-known7-from-enum-told c = c .before .before .before .before .before .before .before .before
 
 root-starts : (c : tie.After-relocate) → c .before .before .slot-at .result .0 ≡ 0
 root-starts c = c .before .before .slot-at .ensures
@@ -130,16 +130,16 @@ enum-told : tie.Need-enum-told
 enum-told c = search needs
 
 same-length-4 : tie.Need-same-length-4
-same-length-4 c = (relocate-from-enum-told (c .before)) .relocate .kept .1 .1 .1 .1 .1 .1 .1 .0 ∙ (begin-from-enum-told (c .before)) .begin .kept .1 .1 .1 .1 .0
+same-length-4 c = (relocate-from-enum-told c) .relocate .kept .1 .1 .1 .1 .1 .1 .1 .0 ∙ (begin-from-enum-told c) .begin .kept .1 .1 .1 .1 .0
 
 same-length-5 : tie.Need-same-length-5
-same-length-5 c = (relocate-from-enum-told (c .before)) .relocate .kept .1 .1 .1 .1 .1 .1 .1 .1 .0 ∙ (begin-from-enum-told (c .before)) .begin .kept .1 .1 .1 .1 .1 .0
+same-length-5 c = (relocate-from-enum-told c) .relocate .kept .1 .1 .1 .1 .1 .1 .1 .1 .0 ∙ (begin-from-enum-told c) .begin .kept .1 .1 .1 .1 .1 .0
 
 same-length-6 : tie.Need-same-length-6
-same-length-6 c = (relocate-from-enum-told (c .before)) .relocate .kept .1 .1 .1 .1 .1 .1 .1 .1 .1 .0 ∙ (begin-from-enum-told (c .before)) .begin .kept .1 .1 .1 .1 .1 .1 .0
+same-length-6 c = (relocate-from-enum-told c) .relocate .kept .1 .1 .1 .1 .1 .1 .1 .1 .1 .0 ∙ (begin-from-enum-told c) .begin .kept .1 .1 .1 .1 .1 .1 .0
 
 returns-3 : tie.Need-returns-3
-returns-3 c = whole.begun-done ((start-from-enum-told (c .before)) .pre) (sym ((has-room-from-enum-told (c .before)) .has-room .ensures) ∙ not-false _ ((else1-from-enum-told (c .before)) .if1 .left)) ((begin-from-enum-told (c .before)) .begin .ensures) (root-starts (relocate-from-enum-told (c .before))) ((relocate-from-enum-told (c .before)) .relocate .ensures) (ap refusalIn (c .before .enum-told .given .1)) (λ k. (slice-known7-from-enum-told (c .before)) .slice-known7 .given k .fits)
+returns-3 c = whole.begun-done ((start-from-enum-told c) .pre) (sym ((has-room-from-enum-told c) .has-room .ensures) ∙ not-false _ ((else1-from-enum-told c) .if1 .left)) ((begin-from-enum-told c) .begin .ensures) (root-starts (relocate-from-enum-told c)) ((relocate-from-enum-told c) .relocate .ensures) (ap refusalIn (c .enum-told .given .1)) (λ k. (slice-known7-from-enum-told c) .slice-known7 .given k .fits)
 
 pub link-checked-spec : {M : Type 1} → statement M
 link-checked-spec =

@@ -24,8 +24,8 @@ own-record lines k start n file line column e h p q r =
     let l : start ≤ u32At little lines (16 * k) = subst (λ (x : ℕ). start ≤ x) e h in
     rw (p, q, r, le-ltb (u32At little lines (16 * k)) start l)
 
-found-stands : (c : tie.After-known-told) → Stands 16 (c .before .before .before .before .args .lines .now) (c .before .before .before .before .args .slot) (At (c .before .found .given .0 .0))
-found-stands c = subst (λ x. Stands 16 (c .before .before .before .before .args .lines .now) (c .before .before .before .before .args .slot) x) (c .before .found .given .1) (c .before .before .before .before .pre)
+found-stands : (c : tie.After-known-told) → Stands 16 0 (c .before .before .before .before .args .lines .now) (c .before .before .before .before .args .slot) (At (c .before .found .given .0 .0))
+found-stands c = subst (λ x. Stands 16 0 (c .before .before .before .before .args .lines .now) (c .before .before .before .before .args .slot) x) (c .before .found .given .1) (c .before .before .before .before .pre)
 
 enum-known-found : tie.Need-enum-known-found
 enum-known-found c = search needs

@@ -1,7 +1,8 @@
--- The last copy that starts at or before the slot, of all of them. Assumes nothing.
+-- The last piece that starts at or before the slot, of all of them. Assumes nothing.
 use mathlib.Core.Path.{ap, _∙_}
-use Rattle.rules.specs.declared.Table.the-variants.{FuncInfo}
-use Rattle.rules.specs.Rows.{rowSize, wholeRows}
+use Prim.Native.Nat.{_/_}
+use lib.ListN.{length}
+use Rattle.rules.specs.Pieces.{pieceSize}
 use Rattle.tell.specs.Listing.{lastAt, pieceAt}
 use Rattle.tell.proofs.Laws.{no-less}
 use borrow.Author.Needs.{needs}
@@ -15,7 +16,7 @@ returns : tie.Need-returns
 unfolding pieceAt
 returns c =
     let p = c .before .before .args .pieces .now in
-    (c .last-at .ensures .0 ∙ ap (lastAt p (rowSize FuncInfo) 0 (c .before .before .args .slot)) (no-less (wholeRows FuncInfo p)), c .last-at .ensures .1)
+    (c .last-at .ensures .0 ∙ ap (lastAt p pieceSize 4 0 (c .before .before .args .slot)) (no-less (length p / pieceSize)), c .last-at .ensures .1)
 
 pub piece-at-spec : {M : Type 1} → statement M
 piece-at-spec = tie.close (tie.spec last-at-requires returns)

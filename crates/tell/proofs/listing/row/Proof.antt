@@ -5,6 +5,7 @@ use Prim.Native.Nat.{ℕ}
 use Rattle.tell.specs.declared.listing.Source.{Source}
 use Rattle.tell.specs.declared.listing.Source.the-variants.{Copy, Unknown}
 use Rattle.tell.specs.declared.listing.Line.{Line}
+use Rattle.tell.specs.Text.{bytesLine, noCopyLine, blankLine}
 use Rattle.tell.specs.Listing.{lineOf, copyLines, copyNumbers, RowOf}
 use borrow.Author.Needs.{needs}
 use Rattle.tell.proofs.listing.row.Statement.{statement}
@@ -23,9 +24,9 @@ a-copy own records slot low high low′ high′ function start from {s} {s′} l
     )
 
 no-copy : (own : ℕ) (records : List ℕ) (slot low high low′ high′ : ℕ) {s s′ : Source} → low ≡ low′ → high ≡ high′ → s ≡ Unknown → s ≡ s′
-    → RowOf own records slot low′ high′ s′ (36 ∷ 38 ∷ 52 ∷ 52 ∷ 52 ∷ []) (slot ∷ low ∷ high ∷ 0 ∷ 0 ∷ 0 ∷ 0 ∷ 0 ∷ 0 ∷ 0 ∷ 0 ∷ 0 ∷ 0 ∷ 0 ∷ 0 ∷ [])
+    → RowOf own records slot low′ high′ s′ (bytesLine ∷ noCopyLine ∷ blankLine ∷ blankLine ∷ blankLine ∷ []) (slot ∷ low ∷ high ∷ 0 ∷ 0 ∷ 0 ∷ 0 ∷ 0 ∷ 0 ∷ 0 ∷ 0 ∷ 0 ∷ 0 ∷ 0 ∷ 0 ∷ [])
 no-copy own records slot low high low′ high′ {s} {s′} p q e f =
-    subst (λ (x : Source). RowOf own records slot low′ high′ x (36 ∷ 38 ∷ 52 ∷ 52 ∷ 52 ∷ []) (slot ∷ low ∷ high ∷ 0 ∷ 0 ∷ 0 ∷ 0 ∷ 0 ∷ 0 ∷ 0 ∷ 0 ∷ 0 ∷ 0 ∷ 0 ∷ 0 ∷ [])) (sym e ∙ f) (
+    subst (λ (x : Source). RowOf own records slot low′ high′ x (bytesLine ∷ noCopyLine ∷ blankLine ∷ blankLine ∷ blankLine ∷ []) (slot ∷ low ∷ high ∷ 0 ∷ 0 ∷ 0 ∷ 0 ∷ 0 ∷ 0 ∷ 0 ∷ 0 ∷ 0 ∷ 0 ∷ 0 ∷ 0 ∷ [])) (sym e ∙ f) (
       refl,
       ap (λ (x : ℕ). slot ∷ x ∷ high ∷ 0 ∷ 0 ∷ 0 ∷ 0 ∷ 0 ∷ 0 ∷ 0 ∷ 0 ∷ 0 ∷ 0 ∷ 0 ∷ 0 ∷ []) p
           ∙ ap (λ (x : ℕ). slot ∷ low′ ∷ x ∷ 0 ∷ 0 ∷ 0 ∷ 0 ∷ 0 ∷ 0 ∷ 0 ∷ 0 ∷ 0 ∷ 0 ∷ 0 ∷ 0 ∷ []) q,

@@ -1,4 +1,4 @@
--- The copy that the slot belongs to, read. Assumes nothing.
+-- The piece that the slot belongs to, read. Assumes nothing.
 use mathlib.Core.Path.{ap, _∙_}
 use Rattle.tell.specs.Listing.{sourceOf, sourceAt}
 use borrow.Author.Needs.{needs}

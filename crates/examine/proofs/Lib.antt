@@ -1,0 +1,10 @@
+pub mod Words
+pub mod Firsts
+pub mod Cursors
+pub mod Sizing
+pub mod Same
+pub mod Recording
+pub mod Meanings
+pub mod Whole
+pub mod Plain
+pub mod Kept

@@ -1,0 +1,4 @@
+pub mod Listing
+pub mod Starting
+pub mod Tiling
+pub mod Targets
