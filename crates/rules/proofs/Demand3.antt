@@ -13,10 +13,10 @@ use lib.Dec.{eqb, leb}
 use borrow.Author.Tests.{leb-true}
 use lib.ListN.{length, get_or, take, replicate, get_or-eq_default}
 use lib.Seq.{take_at}
-use Rattle.rules.specs.Object.{Insn, Object, isCall, is_wide_load, Named, nothing, function, missing, unclear, Meaning, copied, call, reference, refused, decide, meaning, calling, referring}
+use Rattle.rules.specs.Object.{Insn, Object, is_call, is_wide_load, Named, nothing, function, missing, unclear, Meaning, copied, call, reference, refused, decide, meaning, calling, referring}
 use Rattle.rules.specs.Faithful.{Piece, piece, blank, slot_at, Placed, LinkOf, Linked, Faithful}
 use Rattle.rules.specs.Link.{State, Refusal, refusal, Outcome, linked, refuses, unfinished, link}
-use Rattle.rules.specs.Walk.{Walk, standing, SourcePlace, place, source_walk, image_walk}
+use Rattle.rules.specs.Walk.{Walk, standing, stopped, ended, left, SourcePlace, place, source_walk, image_walk}
 use Rattle.rules.specs.Together.{Together, both_stand, SamePlace, KeepsPath}
 use Rattle.rules.specs.Bytes.{Order, Fits, half16, half32, decode, decoded, encoded, padded, AreBytes}
 use Rattle.rules.specs.Tables.{SymbolKind, other, text, section, Tables, FunctionRecord, LineRecord, or_missing, slots_on, row_of, function_records_of, lines_of, base, insn_of, row_at, function_at, by_symbol, by_symbol_row, by_relocation, object_of, refers_to_code}
@@ -80,7 +80,7 @@ call_only w (unclear number) m e = ((λ f. clash (e ∙ f)), λ callee f. clash'
 
 -- in a faithful image a call of a piece's function names a function
 module _ (object : Object) (root : ℕ) (image : List Insn) (pieces : List Piece) (faithful : Faithful object root image pieces) where
-  names_one : (row slot start : ℕ) → Memᴰ (piece row start) pieces → slot < object.slots row → isCall (object.insn row slot) ≡ true → Calls object row slot
+  names_one : (row slot start : ℕ) → Memᴰ (piece row start) pieces → slot < object.slots row → is_call (object.insn row slot) ≡ true → Calls object row slot
   unfolding Linked meaning
   names_one row slot start m l c = go (meaning object row slot) refl (faithful.linked (piece row start) m slot l)
     where
@@ -100,9 +100,12 @@ module _ (object : Object) (root : ℕ) (image : List Insn) (pieces : List Piece
     where
       go : (w : Walk ℤ) → Together (SamePlace pieces) (standing (place row (pos slot)) back rest) w → Placed pieces row (λ start. Unit {0})
       go (standing b t answers') (both_stand same frames) = record { start = same.start; among = same.among; holds = tt }
+      go (stopped _ _) x = elim x [ ]
+      go (ended _) x = elim x [ ]
+      go left x = elim x [ ]
 
   walk_names : (answers : List Bool) (steps row slot : ℕ) (back : List SourcePlace) (rest : List Bool) → source_walk object root answers steps ≡ standing (place row (pos slot)) back rest
-      → isCall (object.insn row slot) ≡ true → Calls object row slot
+      → is_call (object.insn row slot) ≡ true → Calls object row slot
   walk_names answers steps row slot back rest e c =
       let p = in_piece answers steps row slot back rest e in
       names_one row slot p.start p.among (stands_in object root image pieces faithful answers steps row slot back rest e) c
@@ -159,10 +162,10 @@ module _ (tables : Tables) (root : ℕ) (image : List Insn) (pieces : List Piece
     where
       go : (x : Meaning) → meaning (object_of tables) row slot ≡ x → LinkOf pieces ((object_of tables).insn row slot) (start + slot) (slot_at image (start + slot)) x → Refers (object_of tables) row slot
       go copied e k =
-          absurd (not_copied (isCall ((object_of tables).insn row slot)) ((object_of tables).named row slot) (reference_names tables row slot r)
-          (ap (λ w. decide (isCall ((object_of tables).insn row slot)) w ((object_of tables).named row slot)) (sym r.wide) ∙ e))
+          absurd (not_copied (is_call ((object_of tables).insn row slot)) ((object_of tables).named row slot) (reference_names tables row slot r)
+          (ap (λ w. decide (is_call ((object_of tables).insn row slot)) w ((object_of tables).named row slot)) (sym r.wide) ∙ e))
       go (call callee) e k =
-          let is : isCall ((object_of tables).insn row slot) ≡ true = subst (Slots.Fits (isCall ((object_of tables).insn row slot)) (is_wide_load (object_of tables) row slot)) e (meaning_fits (object_of tables) row slot) in
+          let is : is_call ((object_of tables).insn row slot) ≡ true = subst (Slots.Fits (is_call ((object_of tables).insn row slot)) (is_wide_load (object_of tables) row slot)) e (meaning_fits (object_of tables) row slot) in
           absurd (omega (arith, call_opcode ((object_of tables).insn row slot) is, wide_opcode (object_of tables) row slot r.wide))
       go (reference callee) e k = record { callee = callee; is = e }
       go (refused number) e k = absurd k

@@ -15,7 +15,7 @@ use Rattle.rules.specs.declared.Kind.{Kind}
 use Rattle.rules.specs.declared.Kind.TheVariants.{Plain, WideLoad, JumpByOffset, JumpByImmediate, Conditional, CallByte, Exit, Unknown}
 use Rattle.rules.specs.Object.{Insn, is_call, Object, is_wide_load, Meaning, copied, call, reference, refused, meaning, calling, referring}
 use Rattle.rules.specs.Faithful.{Piece, piece, slot_at, Tile, Placed, LinkOf, Linked, Faithful}
-use Rattle.rules.specs.Walk.{Move, by_kind, leads, kind, within, SourcePlace, place, callee_of, in_source, in_image, source_walk, image_walk, standing, Walk}
+use Rattle.rules.specs.Walk.{Move, by_kind, leads, kind, within, SourcePlace, place, callee_of, in_source, in_image, source_walk, image_walk, standing, stopped, ended, left, Walk}
 use Rattle.rules.specs.Together.{Together, SamePlace, RefersTo, ReferencePassed, KeepsPath, both_stand}
 use Rattle.rules.proofs.Simulation.{SameMove, same_goes, same_chooses, same_enters, same_returns, same_stuck, SameSight, outside, inside, walk_together, walk_inside}
 use Rattle.rules.proofs.Tiles.{tile_fits, tile_one}
@@ -135,6 +135,9 @@ module _ (object : Object) (root : ℕ) (image : List Insn) (pieces : List Piece
     stands = e ∙ ap (λ x. standing x frames rest) same.holds;
     refers = refers row slot callee (same.start + slot) l (record { start = same.start; among = same.among; holds = refl }) named;
   }
+  passed row slot callee answers steps back rest l named (stopped _ _) e x = elim x [ ]
+  passed row slot callee answers steps back rest l named (ended _) e x = elim x [ ]
+  passed row slot callee answers steps back rest l named left e x = elim x [ ]
 
   one_place : (row row' slot slot' : ℕ) (there : ℤ) → slot < object.slots row → slot' < object.slots row'
       → SamePlace pieces (place row (pos slot)) there → SamePlace pieces (place row' (pos slot')) there → (row ≡ row') × (slot ≡ slot')
