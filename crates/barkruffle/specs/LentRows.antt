@@ -29,4 +29,4 @@ number_found (At k) = k
 -- told so that all ones is no row's number
 pub record RowTold (result : ℕ) (row : Option ℕ) : Type 0 where
   pub number : result ≡ row_number row
-  pub no_row_lem : result ≡ no_row → row ≡ none
+  pub row_missing : result ≡ no_row → row ≡ none

@@ -37,8 +37,8 @@ exits = insn 0x95 0 0 (pos 0)
 abbrev pub code_symbol : Symbol
 code_symbol = record { index = 7; home = some 2; address = 0; kind = section }
 
-abbrev pub map_symbol_lem : Symbol
-map_symbol_lem = record { index = 9; home = some 5; address = 16; kind = other }
+abbrev pub the_map_symbol : Symbol
+the_map_symbol = record { index = 9; home = some 5; address = 16; kind = other }
 
 abbrev pub the_map : MapRow
 the_map = record { home = 5; symbol = some 9; fd = pos 7; has_data = true }
@@ -53,7 +53,7 @@ line slot number = record { slot = slot; file = 1; line = number; column = 2 }
 abbrev pub tables : Tables
 tables = record {
   code = 1 ∷ 2 ∷ [];
-  symbols = code_symbol ∷ map_symbol_lem ∷ [];
+  symbols = code_symbol ∷ the_map_symbol ∷ [];
   functions = record { home = 1; slots = 6; address = 0; offset = 0; functions = 1; lines = 1 }
       ∷ record { home = 2; slots = 1; address = 0; offset = 0; functions = 1; lines = 2 } ∷ [];
   relocations = relocation 7 0 32 ∷ relocation 7 8 64 ∷ relocation 9 24 64 ∷ [];
@@ -93,9 +93,9 @@ plain (suc (suc (suc (suc (suc (suc (suc k))))))) = record { byte = omega arith;
 symbol_low : (r : Relocation) (s : Symbol) → symbol_of tables r ≡ some s → s.address < 2⁴⁸
 symbol_low r s e = go (eqb 7 r.symbol) (eqb 9 r.symbol) e
   where
-    go : (a b : Bool) → cond a (some code_symbol) (cond b (some map_symbol_lem) none) ≡ some s → s.address < 2⁴⁸
+    go : (a b : Bool) → cond a (some code_symbol) (cond b (some the_map_symbol) none) ≡ some s → s.address < 2⁴⁸
     go true b e = let same : code_symbol ≡ s = cc in subst (λ s. s.address < 2⁴⁸) same (omega arith)
-    go false true e = let same : map_symbol_lem ≡ s = cc in subst (λ s. s.address < 2⁴⁸) same (omega arith)
+    go false true e = let same : the_map_symbol ≡ s = cc in subst (λ s. s.address < 2⁴⁸) same (omega arith)
     go false false e = let z : ◌≡◌ {A = ℕ} 0 1 = cc in absurd (omega arith)
 
 limits : Limits tables
