@@ -15,6 +15,7 @@ use Rattle.rules.specs.Entries.{most_room}
 use Rattle.rules.specs.Faithful.{piece, slot_at}
 use Rattle.rules.specs.Link.{State, Refusal, visit, append, link}
 use Rattle.rules.specs.Bytes.{Fits, half32}
+use Rattle.rules.specs.Rows.{most_function_slots}
 use Rattle.rules.specs.Tables.{other, section, Symbol, Relocation, MapRow, LineRecord, Tables, object_of, row_of, base}
 use Rattle.rules.specs.Maps as Maps
 use Rattle.rules.specs.Maps.{only, judge, all_tasks, first_refusal, applied, rewrite_all, symbol_of, MapOutcome, mapped, map_step}
@@ -100,9 +101,9 @@ symbol_low r s e = go (eqb 7 r.symbol) (eqb 9 r.symbol) e
 
 limits : Limits tables
 limits = record {
-  addresses = λ row. elim row [ zero ↦ omega arith | suc row ↦ elim row [ zero ↦ omega arith | suc row ↦ omega arith ] ];
-  offsets = λ row. elim row [ zero ↦ omega arith | suc row ↦ elim row [ zero ↦ omega arith | suc row ↦ omega arith ] ];
-  slots = λ row. elim row [ zero ↦ omega arith | suc row ↦ elim row [ zero ↦ omega arith | suc row ↦ omega arith ] ];
+  addresses = λ row. elim row as (λ r. (row_of tables r).address < 2⁴⁸) [ zero ↦ omega arith | suc row ↦ elim row as (λ q. (row_of tables (suc q)).address < 2⁴⁸) [ zero ↦ omega arith | suc row ↦ omega arith ] ];
+  offsets = λ row. elim row as (λ r. (row_of tables r).offset < 2⁴⁸) [ zero ↦ omega arith | suc row ↦ elim row as (λ q. (row_of tables (suc q)).offset < 2⁴⁸) [ zero ↦ omega arith | suc row ↦ omega arith ] ];
+  slots = λ row. elim row as (λ r. (row_of tables r).slots ≤ most_function_slots) [ zero ↦ omega arith | suc row ↦ elim row as (λ q. (row_of tables (suc q)).slots ≤ most_function_slots) [ zero ↦ omega arith | suc row ↦ omega arith ] ];
   symbol_addresses = symbol_low;
   plain = plain;
 }

@@ -207,12 +207,12 @@ module _ (tables : Tables) (hidden : Hidden) (domain : MapDomain tables hidden) 
       ∙ ap (λ x. bind x (λ rest. ok (with_insns (crate_function tables hidden from) (part tables (rewrite_all tables orig (map (task from) (theirs from)) now) from) ∷ rest)))
       (functions_pass (suc from) count (rewrite_all tables orig (map (task from) (theirs from)) now) (ready_next from count now ready)
       (λ t m. fine t (Memᴰ.append_right (map (task from) (theirs from)) m)))
-      ∙ rw (all_append tables orig (map (task from) (theirs from)) (their_tasks (suc from) count) now)
-      (ap (λ p. ok (with_insns (crate_function tables hidden from) p ∷ result (rewrite_all tables orig (their_tasks (suc from) count) (rewrite_all tables orig (map (task from) (theirs from)) now)) (suc from) count))
+      ∙ ap (λ p. ok (with_insns (crate_function tables hidden from) p ∷ result (rewrite_all tables orig (their_tasks (suc from) count) (rewrite_all tables orig (map (task from) (theirs from)) now)) (suc from) count))
       (part_same tables (rewrite_all tables orig (map (task from) (theirs from)) now)
       (rewrite_all tables orig (their_tasks (suc from) count) (rewrite_all tables orig (map (task from) (theirs from)) now)) from
       (λ k l. sym (keeps_outside tables orig (their_tasks (suc from) count) (base tables from + k) (λ t m. inl (below k l t (task_rows tables theirs (suc from) count t m).0))
-      (rewrite_all tables orig (map (task from) (theirs from)) now)))))
+      (rewrite_all tables orig (map (task from) (theirs from)) now))))
+      ∙ ap (λ image. ok (result image from (suc count))) (sym (all_append tables orig (map (task from) (theirs from)) (their_tasks (suc from) count) now))
     where
       below : (k : ℕ) → k < (row_of tables from).slots → (t : Task) → suc from ≤ t.row → base tables from + k < base tables t.row
       below k l t b = omega (arith, base_past tables from t.row b)
