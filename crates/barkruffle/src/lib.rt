@@ -335,7 +335,7 @@ pub extern "C" fn barkruffle_line_info(
 
 // Where a record stands in the caller's data: a slice is no result for C.
 #[repr(C)]
-#[derive(Drop)]
+#[derive(Clone, Copy)]
 pub struct Part {
     pub at: u64,
     pub len: u64,

@@ -26,7 +26,7 @@ const LEAST: i64 = -0x8000_0000;
 
 const MOST: i64 = 0x7FFF_FFFF;
 
-#[derive(Drop)]
+#[derive(Clone, Copy)]
 pub enum Verdict {
     Skipped,
     Refused(Refusal),
@@ -37,7 +37,7 @@ pub enum Verdict {
 }
 
 // What is read of a relocation's slot: where it stands, in its function and in table 6, and what it holds.
-#[derive(Drop)]
+#[derive(Clone, Copy)]
 pub struct Site {
     pub row: u32,
     pub slot: Slot,

@@ -20,13 +20,13 @@ use tables::checks::check_link;
 use wire::wipe;
 
 // Where each function of table 3 starts in the image, 0 if it is not placed: the root has a slot, so no callee starts at 0.
-#[derive(Drop)]
+#[derive(Clone, Copy)]
 pub struct State {
     pub starts: [u16; MOST_FUNCTIONS],
     pub used: Used,
 }
 
-#[derive(Drop)]
+#[derive(Clone, Copy)]
 pub struct Step {
     pub judged: Judgement,
     pub state: State,
@@ -298,7 +298,7 @@ fn relocate(
 }
 
 // What a link answers, and where it placed each function of table 3 (0 for none); a refusal's starts say nothing.
-#[derive(Drop)]
+#[derive(Clone, Copy)]
 pub struct Linked {
     pub answer: Answer,
     pub starts: [u16; MOST_FUNCTIONS],
@@ -498,7 +498,7 @@ pub fn link(
 }
 
 // What a link with its list answers, and how many pieces the list has.
-#[derive(Drop)]
+#[derive(Clone, Copy)]
 pub struct Listed {
     pub answer: Answer,
     pub count: usize,

@@ -23,7 +23,7 @@ use rules::limits::{
 use wire::{copy, put_u32};
 
 // How much an image holds: slots, function records, line records.
-#[derive(Drop)]
+#[derive(Clone, Copy)]
 pub struct Used {
     pub slots: u32,
     pub funcs: u32,

@@ -24,7 +24,7 @@ use rules::limits::{NONE, OTHER, TEXT};
 use rules::{ByteOffset, Cause, Found, Refusal, Slot};
 
 // What a slot names. Numbers are document 01's.
-#[derive(Drop)]
+#[derive(Clone, Copy)]
 pub enum Named {
     Nothing,
     Function(usize),
@@ -37,7 +37,7 @@ pub enum Named {
 }
 
 // What the link makes of a slot: the callee's row, and whether it is a reference.
-#[derive(Drop)]
+#[derive(Clone, Copy)]
 pub enum Meaning {
     Copied,
     Points(usize, bool),

@@ -24,7 +24,7 @@ use tables::checks::{check_map_step, or_no_root};
 use walk::{Move, leads_at, slot_in};
 
 // Where a slot of a function leads: a jump stays in its function.
-#[derive(Drop)]
+#[derive(Clone, Copy)]
 pub enum SourceMove {
     Outside,
     Goes(i64),
@@ -37,7 +37,7 @@ pub enum SourceMove {
 }
 
 // A walk's state: the row and the slot, how many frames and how many answers are used.
-#[derive(Drop)]
+#[derive(Clone, Copy)]
 pub enum SourceStand {
     Standing(usize, i64, usize, usize),
     Stopped(usize, i64, usize),
@@ -47,7 +47,7 @@ pub enum SourceStand {
     NoFrame,
 }
 
-#[derive(Drop)]
+#[derive(Clone, Copy)]
 pub enum SourceRun {
     Came(SourceStand),
     // 1, 2 or 13, as the link refuses

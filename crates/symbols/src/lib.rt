@@ -14,7 +14,7 @@ use wire::{copy, put_u32};
 
 // A row of table 2. C's layout of it on a little-endian host is the row's bytes.
 #[repr(C)]
-#[derive(Drop)]
+#[derive(Clone, Copy)]
 pub struct Symbol {
     pub index: u32,
     pub section: u32,

@@ -15,7 +15,7 @@ use rules::limits::{INSTRUCTION_SIZE, MOST_IMAGE_SLOTS};
 use rules::{Found, Kind, Slot};
 
 // Where a slot leads; places outside are places too.
-#[derive(Drop)]
+#[derive(Clone, Copy)]
 pub enum Move {
     Outside,
     Goes(i64),
@@ -28,7 +28,7 @@ pub enum Move {
 }
 
 // A walk's state: the place, how many frames and how many answers are used.
-#[derive(Drop)]
+#[derive(Clone, Copy)]
 pub enum Stand {
     Standing(i64, usize, usize),
     Stopped(i64, usize),
@@ -38,7 +38,7 @@ pub enum Stand {
     NoFrame,
 }
 
-#[derive(Drop)]
+#[derive(Clone, Copy)]
 pub enum ImageRun {
     Came(Stand),
     // more slots than an image may hold
