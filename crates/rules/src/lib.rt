@@ -1,5 +1,6 @@
 // The plain types that definitions and code share. Nothing here decides anything.
 #![tactic(auto)]
+
 pub mod limits; // limits.rt: sizes and limits
 
 // Document 01's eight tables, in its order.
