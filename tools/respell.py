@@ -28,7 +28,24 @@ STRING = r"\"(?:[^\"\\\n]|\\.)*\""
 TO = {
     "shownWords": "ShownWords",  # a fact, and so spelled as a type
     "INS-SIZE": "INS_SIZE",  # the crate's constant
+    # fields of the crate's records beside ours of the same name: fields do not meet
+    "func-info": "func_info",
+    "line-info": "line_info",
+    # the crate's beside ours
+    "with-instructions": "with_insns",
+    "func-info-bytes": "crate_func_info_bytes",
+    "line-info-bytes": "crate_line_info_bytes",
+    # definitions and labels that would meet another's name
+    "on-grid": "on_the_grid",
+    "map-symbol": "the_map_symbol",
+    "by-symbol": "symbol_hash",
+    "func-of": "func_record_of",
+    "line-of": "line_record_of",
+    "seen-link": "seen_of_link",
+    "no-root": "root_missing",
+    "no-row": "row_missing",
 }
+FIELDS = {"func_info", "line_info"}
 # Lemmas that the earlier turn gave the name of their definition, by file.
 LOCAL = {
     "crates/rules/proofs/ExamineLaws.antt": {"same_number": "same_number_lem"},
@@ -75,6 +92,8 @@ def settled(table, texts):
     for old, (new, path) in table.items():
         by_new.setdefault(new, []).append(old)
     for path, text in texts.items():
+        if of_function(path):
+            continue
         stay = of_libraries(text)
         words = set(WORD.findall(re.sub(STRING + r"|--[^\n]*|//[^\n]*", " ", text if path.endswith(".antt") else " ".join(text[a:b] for a, b in blocks(text)))))
         for w in words:
@@ -83,7 +102,7 @@ def settled(table, texts):
     for new, olds in by_new.items():
         if len(olds) > 1:
             for old in olds:
-                if "-" in old and old in table:
+                if "-" in old and old in table and old not in TO:
                     table[old] = (new + "_lem", table[old][1])
     return table
 
@@ -100,8 +119,15 @@ def of_libraries(text):
     return taken
 
 
-def turn_code(text, table, stay):
-    return WORD.sub(lambda m: table[m[0]][0] if m[0] in table and m[0] not in stay else m[0], text)
+def turn_code(text, table, stay, steps=False):
+    """The code with its names turned. steps: a name with a dash behind a dot is a step that Rattle made, and stays."""
+
+    def one(m):
+        if m[0] not in table or m[0] in stay or (steps and "-" in m[0] and text[m.start() - 1 : m.start()] == "."):
+            return m[0]
+        return table[m[0]][0]
+
+    return WORD.sub(one, text)
 
 
 def turn_comment(text, table, stay):
@@ -113,11 +139,11 @@ def turn_comment(text, table, stay):
     return re.sub(r"[A-Za-z][\w'₀-₉-]*", lambda m: humps[m[0]][0] if m[0] in humps and m[0] not in stay else m[0], text)
 
 
-def turn_antt(text, table, stay):
+def turn_antt(text, table, stay, steps=False):
     parts = re.split(r"(" + STRING + r"|--[^\n]*)", text)
     for i, part in enumerate(parts):
         if i % 2 == 0:
-            parts[i] = turn_code(part, table, stay)
+            parts[i] = turn_code(part, table, stay, steps)
         elif part.startswith("--"):
             parts[i] = turn_comment(part, table, stay)
     return "".join(parts)
@@ -176,7 +202,7 @@ def main(argv):
         for w in words:
             here.setdefault(table[w][0] if w in table and w not in stay else w, set()).add(w)
         for new, olds in sorted(here.items()):
-            if len(olds) > 1:
+            if len(olds) > 1 and new not in FIELDS:
                 bad.append(f"{path}: {', '.join(sorted(olds))} fall together as {new}")
     for line in bad:
         print(line)
@@ -185,7 +211,7 @@ def main(argv):
         return 1 if bad else 0
     for path, text in texts.items():
         stay = of_libraries(text)
-        new = turn_antt(text, table, stay) if path.endswith(".antt") else turn_rt(text, table, stay)
+        new = turn_antt(text, table, stay, of_function(path)) if path.endswith(".antt") else turn_rt(text, table, stay)
         with open(path, encoding="utf-8") as f:
             was = f.read()
         if new != was:

@@ -1,7 +1,7 @@
 // Refusals made, and answers told: document 01's number returned, its place numbers written to a lent buffer.
+#![tactic(auto)]
 ghost use Rattle.std.specs.Prelude.{◌≡◌};
 ghost use Rattle.rules.specs.Answers.{reply, number_of, places_of, refused_reply, reply_of};
-ghost use Rattle.rules.specs.Lent.{was};
 ghost use Rattle.answers.specs.Told.{Told};
 
 use rules::{Answer, Cause, Places, Refusal};
@@ -80,7 +80,7 @@ pub fn places(answer: Answer) -> Places
 
 // Returns the number, and writes the place numbers.
 pub fn tell(answer: Answer, out: &mut [u8]) -> u32
-    ensures { Told (was out) out.new result (reply_of answer) }
+    ensures { Told out.old out.new result (reply_of answer) }
 {
     let three = places(answer);
     put_places(out, three.0, three.1, three.2);

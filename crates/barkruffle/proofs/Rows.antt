@@ -84,5 +84,5 @@ row_told ys x r f l e n = go (symbol_with (bytes_of ys) x) few (n ∙ ap number_
     few k h = omega (arith, (found_passes (λ i. eqb (symbol_index (bytes_of ys) i) x) 0 (whole_rows Symbols (bytes_of ys)) k h).high, bytes_length ys)
 
     go : (o : Option ℕ) → ((k : ℕ) → o ≡ some k → k < no_row) → r ≡ number_found (found_of o) → RowTold r o
-    go none b h = record { number = h; no_row_lem = λ _. refl }
-    go (some k) b h = record { number = h; no_row_lem = λ z. absurd (omega (arith, h, z, b k refl)) }
+    go none b h = record { number = h; row_missing = λ _. refl }
+    go (some k) b h = record { number = h; row_missing = λ z. absurd (omega (arith, h, z, b k refl)) }

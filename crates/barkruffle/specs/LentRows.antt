@@ -2,17 +2,15 @@
 -- Assumes nothing.
 use Rattle.std.specs.Prelude.{◌≡◌, List, ℕ}
 use Rattle.std.proofs.Math.Option.{Option, none, some}
-use denote.Triple.Both.{Both}
 use Rattle.rules.specs.declared.Found.{Found}
 use Rattle.rules.specs.declared.Found.TheVariants.{At, Nothing}
 use Rattle.rules.specs.Rows.{Offered, link_offer}
-use Rattle.rules.specs.Lent.{Bytes, was}
+use Rattle.rules.specs.Lent.{Bytes}
 
 -- the tables as they were lent, with these bytes as table 2
-module _ {A B C D E F : Type 0} where
-  abbrev pub lent_with : Both Bytes A → List ℕ → Both Bytes B → Both Bytes C → Both Bytes D → Both Bytes E → Both Bytes F → Offered
-  lent_with code symbols functions relocations instructions func_info line_info =
-      link_offer (was code) symbols (was functions) (was relocations) (was instructions) (was func_info) (was line_info)
+abbrev pub lent_with : Bytes → List ℕ → Bytes → Bytes → Bytes → Bytes → Bytes → Offered
+lent_with code symbols functions relocations instructions func_info line_info =
+    link_offer code symbols functions relocations instructions func_info line_info
 
 -- ---- a row's number, all ones where there is none
 abbrev pub no_row : ℕ
@@ -29,4 +27,4 @@ number_found (At k) = k
 -- told so that all ones is no row's number
 pub record RowTold (result : ℕ) (row : Option ℕ) : Type 0 where
   pub number : result ≡ row_number row
-  pub no_row_lem : result ≡ no_row → row ≡ none
+  pub row_missing : result ≡ no_row → row ≡ none

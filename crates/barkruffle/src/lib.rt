@@ -1,11 +1,12 @@
 // The entries that C calls: each hands over to the crate that decides, and tells its answer as document 01's numbers.
+#![tactic(auto)]
 ghost use Rattle.std.specs.Prelude.{◌≡◌, ◌*◌, ◌≤◌, eqb, length, take};
 ghost use Rattle.rules.specs.declared.Table.TheVariants.{Symbols, FuncInfo, LineInfo};
 ghost use Rattle.rules.specs.Bytes.{little};
 ghost use Rattle.rules.specs.Answers.{reply_of};
 ghost use Rattle.rules.specs.Rows.{row_size};
 ghost use Rattle.rules.specs.Lookups.{symbol_with};
-ghost use Rattle.rules.specs.Lent.{was, lent, lent_maps, lent_shown, outputs, lent_outputs, lent_by};
+ghost use Rattle.rules.specs.Lent.{lent, lent_maps, lent_shown, outputs, lent_outputs, lent_by};
 ghost use Rattle.rules.specs.Entries.{link_entry, link_pieces_entry, map_entry};
 ghost use Rattle.rules.specs.Examine.{examine_entry};
 ghost use Rattle.rules.specs.Readers.{read_records, record_reply};
@@ -36,11 +37,11 @@ pub extern "C" fn barkruffle_relocate_maps(
     places: &mut [u8],
 ) -> u32
     ensures { MapTold
-        (was places)
+        places.old
         places.new
         instructions.new
         result
-        (map_entry little (lent_maps code symbols functions relocations maps instructions)) }
+        (map_entry little (lent_maps code.now symbols.now functions.now relocations.now maps.now instructions.old)) }
 {
     let a = relocate_maps(code, symbols, functions, relocations, maps, instructions);
     tell(a, places)
@@ -63,15 +64,15 @@ pub extern "C" fn barkruffle_link(
     places: &mut [u8],
 ) -> u32
     ensures { LinkTold
-        (was places)
+        places.old
         places.new
-        (outputs image.exit image_func_info.exit image_line_info.exit)
+        (outputs image.new image_func_info.new image_line_info.new)
         result
         (link_entry
         little
-        (lent code symbols functions relocations instructions func_info line_info)
+        (lent code.now symbols.now functions.now relocations.now instructions.now func_info.now line_info.now)
         root
-        (lent_by (lent_outputs image image_func_info image_line_info))) }
+        (lent_by (lent_outputs image.old image_func_info.old image_line_info.old))) }
 {
     let a = link(
         code,
@@ -107,17 +108,17 @@ pub extern "C" fn barkruffle_link_pieces(
     places: &mut [u8],
 ) -> u32
     ensures { ListTold
-        (was places)
+        places.old
         places.new
-        (outputs image.exit image_func_info.exit image_line_info.exit)
+        (outputs image.new image_func_info.new image_line_info.new)
         pieces.new
         result
         (link_pieces_entry
         little
-        (lent code symbols functions relocations instructions func_info line_info)
+        (lent code.now symbols.now functions.now relocations.now instructions.now func_info.now line_info.now)
         root
-        (lent_by (lent_outputs image image_func_info image_line_info))
-        (length (was pieces))) }
+        (lent_by (lent_outputs image.old image_func_info.old image_line_info.old))
+        (length pieces.old)) }
 {
     let listed = link_pieces(
         code,
@@ -155,14 +156,14 @@ pub extern "C" fn barkruffle_examine(
     places: &mut [u8],
 ) -> u32
     ensures { Told
-        (was places)
+        places.old
         places.new
         result
         (examine_entry
         little
-        (lent code symbols functions relocations instructions func_info line_info)
+        (lent code.now symbols.now functions.now relocations.now instructions.now func_info.now line_info.now)
         root
-        (lent_shown image image_func_info image_line_info pieces)) }
+        (lent_shown image.now image_func_info.now image_line_info.now pieces.now)) }
 {
     let a = examine(
         code,
@@ -199,15 +200,15 @@ fn link_laid(
 ) -> u32
     requires { row_size Symbols * count ≤ length table.now }
     ensures { LinkTold
-        (was places)
+        places.old
         places.new
-        (outputs image.exit image_func_info.exit image_line_info.exit)
+        (outputs image.new image_func_info.new image_line_info.new)
         result
         (link_entry
         little
-        (lent_with code (take (row_size Symbols * count) (was table)) functions relocations instructions func_info line_info)
+        (lent_with code.now (take (row_size Symbols * count) table.now) functions.now relocations.now instructions.now func_info.now line_info.now)
         root
-        (lent_by (lent_outputs image image_func_info image_line_info))) }
+        (lent_by (lent_outputs image.old image_func_info.old image_line_info.old))) }
 {
     let end = SYMBOL_SIZE * count;
     barkruffle_link(
@@ -243,15 +244,15 @@ pub extern "C" fn barkruffle_link_rows(
     places: &mut [u8],
 ) -> u32
     ensures { LinkTold
-        (was places)
+        places.old
         places.new
-        (outputs image.exit image_func_info.exit image_line_info.exit)
+        (outputs image.new image_func_info.new image_line_info.new)
         result
         (link_entry
         little
-        (lent_with code (bytes_of (was symbols)) functions relocations instructions func_info line_info)
+        (lent_with code.now (bytes_of symbols.now) functions.now relocations.now instructions.now func_info.now line_info.now)
         root
-        (lent_by (lent_outputs image image_func_info image_line_info))) }
+        (lent_by (lent_outputs image.old image_func_info.old image_line_info.old))) }
 {
     let mut table = [0u8; ROWS_ROOM];
     let count = lay_rows(symbols, &mut table);
@@ -287,7 +288,7 @@ fn row_number(found: Found) -> u64
 // The row of lent symbols that has the index, or all ones where none has.
 #[unsafe(no_mangle)]
 pub extern "C" fn barkruffle_find_symbol(symbols: &[Symbol], index: u32) -> u64
-    ensures { RowTold result (symbol_with (bytes_of (was symbols)) index) }
+    ensures { RowTold result (symbol_with (bytes_of symbols.now) index) }
 {
     row_number(find_rows(symbols, index))
 }
@@ -302,11 +303,11 @@ pub extern "C" fn barkruffle_func_info(
     places: &mut [u8],
 ) -> u32
     ensures { ReadTold
-        (was places)
+        places.old
         places.new
         out.new
         result
-        (read_records little FuncInfo (given size count (was bytes)) (length (was out))) }
+        (read_records little FuncInfo (given size count bytes.now) (length out.old)) }
 {
     let a = func_info(size, count, bytes, out);
     tell(a, places)
@@ -322,11 +323,11 @@ pub extern "C" fn barkruffle_line_info(
     places: &mut [u8],
 ) -> u32
     ensures { ReadTold
-        (was places)
+        places.old
         places.new
         out.new
         result
-        (read_records little LineInfo (given size count (was bytes)) (length (was out))) }
+        (read_records little LineInfo (given size count bytes.now) (length out.old)) }
 {
     let a = line_info(size, count, bytes, out);
     tell(a, places)
@@ -334,7 +335,7 @@ pub extern "C" fn barkruffle_line_info(
 
 // Where a record stands in the caller's data: a slice is no result for C.
 #[repr(C)]
-#[derive(Drop)]
+#[derive(Clone, Copy)]
 pub struct Part {
     pub at: u64,
     pub len: u64,
@@ -355,7 +356,7 @@ fn part_of(a: Answer, size: u32, k: u32) -> Part
 // Record k of struct bpf_func_info, its tail included; (0, 0) where it is refused.
 #[unsafe(no_mangle)]
 pub extern "C" fn barkruffle_func_info_record(size: u32, count: u32, bytes: &[u8], k: u32) -> Part
-    ensures { Stands FuncInfo (given size count (was bytes)) k result.at result.len }
+    ensures { Stands FuncInfo (given size count bytes.now) k result.at result.len }
 {
     part_of(func_info_record_number(size, count, bytes, k), size, k)
 }
@@ -363,7 +364,7 @@ pub extern "C" fn barkruffle_func_info_record(size: u32, count: u32, bytes: &[u8
 // The same of struct bpf_line_info.
 #[unsafe(no_mangle)]
 pub extern "C" fn barkruffle_line_info_record(size: u32, count: u32, bytes: &[u8], k: u32) -> Part
-    ensures { Stands LineInfo (given size count (was bytes)) k result.at result.len }
+    ensures { Stands LineInfo (given size count bytes.now) k result.at result.len }
 {
     part_of(line_info_record_number(size, count, bytes, k), size, k)
 }
@@ -377,7 +378,7 @@ pub extern "C" fn barkruffle_func_info_record_number(
     k: u32,
     places: &mut [u8],
 ) -> u32
-    ensures { Told (was places) places.new result (record_reply little FuncInfo (given size count (was bytes)) k) }
+    ensures { Told places.old places.new result (record_reply little FuncInfo (given size count bytes.now) k) }
 {
     tell(func_info_record_number(size, count, bytes, k), places)
 }
@@ -391,7 +392,7 @@ pub extern "C" fn barkruffle_line_info_record_number(
     k: u32,
     places: &mut [u8],
 ) -> u32
-    ensures { Told (was places) places.new result (record_reply little LineInfo (given size count (was bytes)) k) }
+    ensures { Told places.old places.new result (record_reply little LineInfo (given size count bytes.now) k) }
 {
     tell(line_info_record_number(size, count, bytes, k), places)
 }

@@ -15,6 +15,7 @@ use Rattle.rules.specs.Entries.{most_room}
 use Rattle.rules.specs.Faithful.{piece, slot_at}
 use Rattle.rules.specs.Link.{State, Refusal, visit, append, link}
 use Rattle.rules.specs.Bytes.{Fits, half32}
+use Rattle.rules.specs.Rows.{most_function_slots}
 use Rattle.rules.specs.Tables.{other, section, Symbol, Relocation, MapRow, LineRecord, Tables, object_of, row_of, base}
 use Rattle.rules.specs.Maps as Maps
 use Rattle.rules.specs.Maps.{only, judge, all_tasks, first_refusal, applied, rewrite_all, symbol_of, MapOutcome, mapped, map_step}
@@ -37,8 +38,8 @@ exits = insn 0x95 0 0 (pos 0)
 abbrev pub code_symbol : Symbol
 code_symbol = record { index = 7; home = some 2; address = 0; kind = section }
 
-abbrev pub map_symbol_lem : Symbol
-map_symbol_lem = record { index = 9; home = some 5; address = 16; kind = other }
+abbrev pub the_map_symbol : Symbol
+the_map_symbol = record { index = 9; home = some 5; address = 16; kind = other }
 
 abbrev pub the_map : MapRow
 the_map = record { home = 5; symbol = some 9; fd = pos 7; has_data = true }
@@ -53,7 +54,7 @@ line slot number = record { slot = slot; file = 1; line = number; column = 2 }
 abbrev pub tables : Tables
 tables = record {
   code = 1 ∷ 2 ∷ [];
-  symbols = code_symbol ∷ map_symbol_lem ∷ [];
+  symbols = code_symbol ∷ the_map_symbol ∷ [];
   functions = record { home = 1; slots = 6; address = 0; offset = 0; functions = 1; lines = 1 }
       ∷ record { home = 2; slots = 1; address = 0; offset = 0; functions = 1; lines = 2 } ∷ [];
   relocations = relocation 7 0 32 ∷ relocation 7 8 64 ∷ relocation 9 24 64 ∷ [];
@@ -93,16 +94,16 @@ plain (suc (suc (suc (suc (suc (suc (suc k))))))) = record { byte = omega arith;
 symbol_low : (r : Relocation) (s : Symbol) → symbol_of tables r ≡ some s → s.address < 2⁴⁸
 symbol_low r s e = go (eqb 7 r.symbol) (eqb 9 r.symbol) e
   where
-    go : (a b : Bool) → cond a (some code_symbol) (cond b (some map_symbol_lem) none) ≡ some s → s.address < 2⁴⁸
+    go : (a b : Bool) → cond a (some code_symbol) (cond b (some the_map_symbol) none) ≡ some s → s.address < 2⁴⁸
     go true b e = let same : code_symbol ≡ s = cc in subst (λ s. s.address < 2⁴⁸) same (omega arith)
-    go false true e = let same : map_symbol_lem ≡ s = cc in subst (λ s. s.address < 2⁴⁸) same (omega arith)
+    go false true e = let same : the_map_symbol ≡ s = cc in subst (λ s. s.address < 2⁴⁸) same (omega arith)
     go false false e = let z : ◌≡◌ {A = ℕ} 0 1 = cc in absurd (omega arith)
 
 limits : Limits tables
 limits = record {
-  addresses = λ row. elim row [ zero ↦ omega arith | suc row ↦ elim row [ zero ↦ omega arith | suc row ↦ omega arith ] ];
-  offsets = λ row. elim row [ zero ↦ omega arith | suc row ↦ elim row [ zero ↦ omega arith | suc row ↦ omega arith ] ];
-  slots = λ row. elim row [ zero ↦ omega arith | suc row ↦ elim row [ zero ↦ omega arith | suc row ↦ omega arith ] ];
+  addresses = λ row. elim row as (λ r. (row_of tables r).address < 2⁴⁸) [ zero ↦ omega arith | suc row ↦ elim row as (λ q. (row_of tables (suc q)).address < 2⁴⁸) [ zero ↦ omega arith | suc row ↦ omega arith ] ];
+  offsets = λ row. elim row as (λ r. (row_of tables r).offset < 2⁴⁸) [ zero ↦ omega arith | suc row ↦ elim row as (λ q. (row_of tables (suc q)).offset < 2⁴⁸) [ zero ↦ omega arith | suc row ↦ omega arith ] ];
+  slots = λ row. elim row as (λ r. (row_of tables r).slots ≤ most_function_slots) [ zero ↦ omega arith | suc row ↦ elim row as (λ q. (row_of tables (suc q)).slots ≤ most_function_slots) [ zero ↦ omega arith | suc row ↦ omega arith ] ];
   symbol_addresses = symbol_low;
   plain = plain;
 }

@@ -11,7 +11,7 @@ use Rattle.rules.specs.Tables.{object_of}
 use Rattle.rules.specs.Maps.{judge, first_refusal, applied, rewrite_all, map_step}
 use Rattle.rules.specs.Records.{image_functions, image_lines, admits, link_step, room_for, stray_line}
 use Rattle.equality.specs.Crate as Crate
-use Rattle.equality.specs.Crate.{u32, u64, i32, add_u64, mul_u64, add_u32, sub_u32, add_i32, sub_i32, insn_is_call_lem, relocate_map, relocate_maps_lem, relocate_functions, object_relocate_maps, slot_of, relocate_from, relocate, link_new, relocate_calls}
+use Rattle.equality.specs.Crate.{u32, u64, i32, add_u64, mul_u64, add_u32, sub_u32, add_i32, sub_i32, insn_is_call, relocate_map, relocate_maps, relocate_functions, object_relocate_maps, slot_of, relocate_from, relocate, link_new, relocate_calls}
 use Rattle.equality.specs.Domain.{crate_of, cause_of}
 use Rattle.equality.specs.Demand2.{both_steps, Answer, image, refusal, endless, our_steps, Clause, valid_tables, compared_only, one_refusable, five_not_text, five_no_map, map_alone, Call-Below, reference_below, callees_differ, function_count, line_count}
 use Rattle.equality.proofs.Inputs.{Input, insn, exits, calls, next, inputs_for}
@@ -64,7 +64,7 @@ answers_to function_count = (gives (exits ∷ []) 1 0 ∷ gives (exits ∷ []) 5
 answers_to line_count = (gives (exits ∷ []) 0 1 ∷ gives (exits ∷ []) 0 5 ∷ []) ∷ []
 
 pub answered : (x : Clause) → map both (inputs_for x) ≡ answers_to x
-unfolding is_call is_blank is_wide_load decide meaning displacement calling referring visit append link signed object_of judge first_refusal applied rewrite_all map_step image_functions image_lines admits room_for stray_line link_step u32 u64 i32 add_u64 mul_u64 add_u32 sub_u32 add_i32 sub_i32 insn_is_call_lem relocate_map relocate_maps_lem relocate_functions object_relocate_maps slot_of relocate_from relocate link_new Crate.link relocate_calls crate_of both_steps our_steps
+unfolding is_call is_blank is_wide_load decide meaning displacement calling referring visit append link signed object_of judge first_refusal applied rewrite_all map_step image_functions image_lines admits room_for stray_line link_step u32 u64 i32 add_u64 mul_u64 add_u32 sub_u32 add_i32 sub_i32 insn_is_call relocate_map relocate_maps relocate_functions object_relocate_maps slot_of relocate_from relocate link_new Crate.link relocate_calls crate_of both_steps our_steps
 answered valid_tables = refl
 answered compared_only = refl
 answered one_refusable = refl

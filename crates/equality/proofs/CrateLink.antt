@@ -19,7 +19,7 @@ use Rattle.rules.specs.Bytes.{half32}
 use Rattle.rules.specs.Tables.{Tables, row_of, base, insn_of, function_records_of, lines_of, object_of, LineRecord}
 use Rattle.rules.specs.Records.{Room, image_functions, image_lines, admits, root_admits, link_step}
 use Rattle.equality.specs.Crate as Crate
-use Rattle.equality.specs.Crate.{2³², func_at, lines_at, Result, ok, err, bind, Linker, with_slot, extend, clone, pointed, Slot, slot_of, link_function_lem, relocate_slot, relocate_from, relocate, link_new, unknown_function}
+use Rattle.equality.specs.Crate.{2³², func_at, lines_at, Result, ok, err, bind, Linker, with_slot, extend, clone, pointed, Slot, slot_of, link_function, relocate_slot, relocate_from, relocate, link_new, unknown_function}
 use Rattle.equality.specs.Met.{afterwards, pointing_met, slot_met, visit_met, unless_met, append_met, link_met}
 use Rattle.equality.specs.Domain.{Hidden, crate_function, crate_of, reached, Compared, LinkDomain}
 use Rattle.rules.proofs.Grown.{Grown, grown_refl, grown_rewritten, grown_longer, grown_then}
@@ -56,10 +56,10 @@ module _ (tables : Tables) (hidden : Hidden) (room : Room) (root : ℕ) where
   -- the state of the link and the crate's linker hold the same
   pub record Same (s : State) (p : Linker) : Type 0 where
     pub instructions : p.instructions ≡ s.image
-    pub functions : p.func_info_lem ≡ image_functions tables root s.placed
-    pub lines : p.line_info_lem ≡ image_lines tables root s.placed
-    pub func_count : p.func_num_info ≡ length p.func_info_lem
-    pub line_count : p.line_num_info ≡ length p.line_info_lem
+    pub functions : p.func_info ≡ image_functions tables root s.placed
+    pub lines : p.line_info ≡ image_lines tables root s.placed
+    pub func_count : p.func_num_info ≡ length p.func_info
+    pub line_count : p.line_num_info ≡ length p.line_info
     pub memory : (row : ℕ) → Memᴰ row (reached tables room root) → p.linked_functions (row_of tables row).address ≡ start_of row s.placed
     pub short : length s.image ≤ most_image_slots
     pub starts : (row start : ℕ) → start_of row s.placed ≡ some start → start ≤ most_image_slots
@@ -106,22 +106,22 @@ module _ (tables : Tables) (hidden : Hidden) (room : Room) (root : ℕ) (domain 
     small : length p.instructions < half32
     small = omega (arith, here, same.short)
 
-    functions_same : p.func_info_lem ++ map (func_at (length p.instructions)) (function_records_of tables row)
+    functions_same : p.func_info ++ map (func_at (length p.instructions)) (function_records_of tables row)
         ≡ image_functions tables root (s.placed ++ (piece row (length s.image) ∷ []))
     functions_same =
         rw (functions_exact (length p.instructions) (omega (arith, small)) (function_records_of tables row), here, same.functions)
         (sym (image_functions_lem tables root s.placed (piece row (length s.image))))
 
-    lines_same : p.line_info_lem ++ lines_at (lines_of tables row) (length p.instructions) ≡ image_lines tables root (s.placed ++ (piece row (length s.image) ∷ []))
+    lines_same : p.line_info ++ lines_at (lines_of tables row) (length p.instructions) ≡ image_lines tables root (s.placed ++ (piece row (length s.image) ∷ []))
     lines_same =
         rw (lines_exact (length p.instructions) (row_of tables row).slots small (domain.limits.slots row) (lines_of tables row) admitted.no_stray, here, same.lines)
         (sym (image_lines_lem tables root s.placed (piece row (length s.image))))
 
-    functions_few : length (p.func_info_lem ++ map (func_at (length p.instructions)) (function_records_of tables row)) < 2³²
+    functions_few : length (p.func_info ++ map (func_at (length p.instructions)) (function_records_of tables row)) < 2³²
     functions_few =
         omega (
           arith,
-          length-append p.func_info_lem (map (func_at (length p.instructions)) (function_records_of tables row)),
+          length-append p.func_info (map (func_at (length p.instructions)) (function_records_of tables row)),
           length-map (function_records_of tables row) (func_at (length p.instructions)),
           ap length same.functions,
           admitted.functions_fit,
@@ -133,14 +133,14 @@ module _ (tables : Tables) (hidden : Hidden) (room : Room) (root : ℕ) (domain 
     lines_length (l ∷ ls) start = ap suc (length-map ls (Crate.line_at l.slot start))
 
     lines_few : (ls : List LineRecord) → length (image_lines tables root s.placed) + length ls ≤ room.lines
-        → length (p.line_info_lem ++ lines_at ls (length p.instructions)) < 2³²
+        → length (p.line_info ++ lines_at ls (length p.instructions)) < 2³²
     lines_few ls fit =
-        omega (arith, length-append p.line_info_lem (lines_at ls (length p.instructions)), lines_length ls (length p.instructions), ap length same.lines, fit, domain.room_limits.room_lines)
+        omega (arith, length-append p.line_info (lines_at ls (length p.instructions)), lines_length ls (length p.instructions), ap length same.lines, fit, domain.room_limits.room_lines)
 
     line_count_same : (ls : List LineRecord) → length (image_lines tables root s.placed) + length ls ≤ room.lines
-        → Crate.line_count ls p.line_num_info (length (p.line_info_lem ++ lines_at ls (length p.instructions))) ≡ length (p.line_info_lem ++ lines_at ls (length p.instructions))
-    line_count_same [] fit = same.line_count ∙ ap length (sym (append-nil p.line_info_lem))
-    line_count_same (l ∷ ls) fit = u32_exact (length (p.line_info_lem ++ lines_at (l ∷ ls) (length p.instructions))) (lines_few (l ∷ ls) fit)
+        → Crate.line_count ls p.line_num_info (length (p.line_info ++ lines_at ls (length p.instructions))) ≡ length (p.line_info ++ lines_at ls (length p.instructions))
+    line_count_same [] fit = same.line_count ∙ ap length (sym (append-nil p.line_info))
+    line_count_same (l ∷ ls) fit = u32_exact (length (p.line_info ++ lines_at (l ∷ ls) (length p.instructions))) (lines_few (l ∷ ls) fit)
 
     memory_same : (row' : ℕ) → Memᴰ row' (reached tables room root)
         → cond (eqb (row_of tables row').address (row_of tables row).address) (some (length p.instructions)) (p.linked_functions (row_of tables row').address)
@@ -173,7 +173,7 @@ module _ (tables : Tables) (hidden : Hidden) (room : Room) (root : ℕ) (domain 
       instructions = ap (λ image. image ++ fun.instructions) same.instructions;
       functions = functions_same;
       lines = lines_same;
-      func_count = u32_exact (length (p.func_info_lem ++ map (func_at (length p.instructions)) (function_records_of tables row))) functions_few;
+      func_count = u32_exact (length (p.func_info ++ map (func_at (length p.instructions)) (function_records_of tables row))) functions_few;
       line_count = line_count_same (lines_of tables row) admitted.lines_fit;
       memory = memory_same;
       short = omega (arith, length-append s.image (slots_of object row), length_run (insn_of tables row) 0 (row_of tables row).slots, admitted.slots_fit, domain.room_limits.room_slots);
@@ -195,7 +195,7 @@ module _ (tables : Tables) (hidden : Hidden) (room : Room) (root : ℕ) (domain 
         → ((after : State) (p' : Linker) → Grown object here (suc here) s after → Same tables hidden room root after p' → Within (nextMet after)
         → Agree tables hidden room root (next after) (next' p'))
         → Agree tables hidden room root (pointing object append o row here rewrite next s)
-        (link_function_lem crate link_new o (crate_function tables hidden row) (λ start after. next' (with_slot here (pointed c start here) after)) p)
+        (link_function crate link_new o (crate_function tables hidden row) (λ start after. next' (with_slot here (pointed c start here) after)) p)
     pointing_agrees (some start) row here rewrite c next next' nextMet s p e here-met same l re within rest =
         rest (rewritten here (rewrite start) s) (with_slot here (pointed c start here) p) (grown_rewritten object here (rewrite start) s)
         (same_rewritten here (rewrite start) (pointed c start here) s p (re start (omega (arith, same.starts row start e))) same) within

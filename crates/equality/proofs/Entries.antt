@@ -118,8 +118,8 @@ module _ (order : Order) (o : Offered) (hidden : Hidden) (lent : Outputs) (root 
       is_went = refl;
       places = λ i. reply 0 (length (sym same.instructions i)) (length (sym same.functions i)) (length (sym same.lines i));
       image = ap (padded lent.image) (ap (encoded order) (sym same.instructions) ∙ same_insn_bytes order same.linker.instructions);
-      func_info_lem = ap (padded lent.func_info) (ap (func_info_bytes order) (sym same.functions) ∙ same_func_bytes order same.linker.func_info_lem);
-      line_info_lem = ap (padded lent.line_info) (ap (line_info_bytes order) (sym same.lines) ∙ same_line_bytes order same.linker.line_info_lem);
+      func_info = ap (padded lent.func_info) (ap (func_info_bytes order) (sym same.functions) ∙ same_func_bytes order same.linker.func_info);
+      line_info = ap (padded lent.line_info) (ap (line_info_bytes order) (sym same.lines) ∙ same_line_bytes order same.linker.line_info);
       func_num = same.func_num ∙ sym (ap length same.functions);
       line_num = same.line_num ∙ sym (ap length same.lines);
     })

@@ -12,11 +12,12 @@ use Rattle.rules.specs.Object.{Insn, is_call, is_blank, is_wide_load, decide, me
 use Rattle.rules.specs.Entries.{most_room}
 use Rattle.rules.specs.Faithful.{slot_at}
 use Rattle.rules.specs.Link.{visit, append, link}
+use Rattle.rules.specs.Rows.{most_function_slots}
 use Rattle.rules.specs.Tables.{Tables, object_of, row_of, base, insn_of}
 use Rattle.rules.specs.Maps.{judge, first_refusal, applied, rewrite_all, map_step}
 use Rattle.rules.specs.Records.{Room, image_functions, image_lines, admits, link_step, room_for, stray_line}
 use Rattle.equality.specs.Met.{visit_met, append_met, link_met}
-use Rattle.equality.specs.Domain.{Hidden, Plain, Limits, reached, done, MapClauses, CallDomain, with_instructions}
+use Rattle.equality.specs.Domain.{2⁴⁸, Hidden, Plain, Limits, reached, done, MapClauses, CallDomain, with_instructions}
 use Rattle.equality.specs.Demand2.{our_steps, Valid, Domain}
 use Rattle.equality.proofs.Clauses.{domain_of}
 
@@ -51,9 +52,9 @@ plain (suc (suc k)) = record { byte = omega arith; fits = omega arith }
 
 limits : Limits tables
 limits = record {
-  addresses = λ row. elim row [ zero ↦ omega arith | suc row ↦ omega arith ];
-  offsets = λ row. elim row [ zero ↦ omega arith | suc row ↦ omega arith ];
-  slots = λ row. elim row [ zero ↦ omega arith | suc row ↦ omega arith ];
+  addresses = λ row. elim row as (λ r. (row_of tables r).address < 2⁴⁸) [ zero ↦ omega arith | suc row ↦ omega arith ];
+  offsets = λ row. elim row as (λ r. (row_of tables r).offset < 2⁴⁸) [ zero ↦ omega arith | suc row ↦ omega arith ];
+  slots = λ row. elim row as (λ r. (row_of tables r).slots ≤ most_function_slots) [ zero ↦ omega arith | suc row ↦ omega arith ];
   symbol_addresses = λ r s e. let z : ◌≡◌ {A = ℕ} 0 1 = cc in absurd (omega arith);
   plain = plain;
 }

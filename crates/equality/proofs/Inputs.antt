@@ -102,8 +102,8 @@ offset_twice = record {
 
 -- a root that is no row; two functions of one key; table 6 a slot short; an address of 2⁶⁴ − 8, which the crate's sum leaves; an offset of 2⁶⁴; an
 -- opcode that is no byte; an immediate that is no i32. The one key and the last three are of the definition only: no Rust value holds them
-abbrev pub no_root_lem : Input
-no_root_lem = input (object (1 ∷ []) [] (function 1 1 0 ∷ []) [] [] (exits ∷ [])) 1
+abbrev pub root_missing : Input
+root_missing = input (object (1 ∷ []) [] (function 1 1 0 ∷ []) [] [] (exits ∷ [])) 1
 
 abbrev pub key_twice : Input
 key_twice = input (object (1 ∷ []) [] (function 1 1 0 ∷ function 1 1 0 ∷ []) [] [] (next ∷ exits ∷ [])) 1
@@ -264,7 +264,7 @@ found_by_section =
     (map_row 5 (some 8) 6 false ∷ []) (exits ∷ load (pos 0) ∷ next ∷ [])) 0
 
 abbrev pub inputs_for : Clause → List Input
-inputs_for valid_tables = symbol_twice ∷ offset_twice ∷ no_root_lem ∷ key_twice ∷ slot_missing ∷ address_high ∷ offset_high ∷ opcode_high ∷ immediate_high ∷ []
+inputs_for valid_tables = symbol_twice ∷ offset_twice ∷ root_missing ∷ key_twice ∷ slot_missing ∷ address_high ∷ offset_high ∷ opcode_high ∷ immediate_high ∷ []
 inputs_for compared_only = six ∷ six_panics ∷ six_in_link ∷ seven ∷ eight ∷ nine ∷ eleven ∷ twelve ∷ []
 inputs_for one_refusable = two_refusable ∷ []
 inputs_for five_not_text = five_by_text ∷ []

@@ -43,15 +43,15 @@ module _ (tables : Tables) (fds : (m : MapRow) → Memᴰ m tables.maps → Fits
       go true e = record { fd_fits = f; value_fits = λ v s. let same : sum ≡ v = cc in subst (Fits half32) same (fits_true sum e) }
       go false e = tt
 
-  map_good_lem : (o : Option MapRow) (w : Bool) (sum : ℤ) → ((m : MapRow) → o ≡ some m → Fits half32 m.fd) → Good (by_map tables o w sum)
-  map_good_lem none w sum f = tt
-  map_good_lem (some m) true sum f = data_good m.has_data m.fd sum (f m refl)
-  map_good_lem (some m) false sum f = tt
+  map_good : (o : Option MapRow) (w : Bool) (sum : ℤ) → ((m : MapRow) → o ≡ some m → Fits half32 m.fd) → Good (by_map tables o w sum)
+  map_good none w sum f = tt
+  map_good (some m) true sum f = data_good m.has_data m.fd sum (f m refl)
+  map_good (some m) false sum f = tt
 
   kind_good : (k : SymbolKind) (o : Option MapRow) (w : Bool) (sum : ℤ) → ((m : MapRow) → o ≡ some m → Fits half32 m.fd) → Good (by_kind tables k o w sum)
   kind_good text o w sum f = tt
-  kind_good other o w sum f = map_good_lem o w sum f
-  kind_good section o w sum f = map_good_lem o w sum f
+  kind_good other o w sum f = map_good o w sum f
+  kind_good section o w sum f = map_good o w sum f
 
   found_fits : (symbol home : ℕ) (m : MapRow) → map_for tables symbol home ≡ some m → Fits half32 m.fd
   found_fits symbol home m e = go (first (λ m. is_symbol symbol m.symbol) tables.maps) refl e
@@ -69,9 +69,9 @@ module _ (tables : Tables) (fds : (m : MapRow) → Memᴰ m tables.maps → Fits
       go true = tt
       go false = kind_good s.kind (map_for tables symbol home) w (i.immediate +ℤ pos s.address) (λ m e. found_fits symbol home m e)
 
-  symbol_good_lem : (o : Option Symbol) (symbol : ℕ) (i : Insn) (w : Bool) → Good (by_symbol tables o symbol i w)
-  symbol_good_lem none symbol i w = tt
-  symbol_good_lem (some s) symbol i w = home_good s.home s symbol i w
+  symbol_good : (o : Option Symbol) (symbol : ℕ) (i : Insn) (w : Bool) → Good (by_symbol tables o symbol i w)
+  symbol_good none symbol i w = tt
+  symbol_good (some s) symbol i w = home_good s.home s symbol i w
 
   judge_good : (image : List Insn) (t : Task) → Good (judge tables image t)
   unfolding judge
@@ -79,7 +79,7 @@ module _ (tables : Tables) (fds : (m : MapRow) → Memᴰ m tables.maps → Fits
     where
       go : (a b : Bool) → Good (cond a (cond b (by_symbol tables (symbol_of tables t.relocation) t.relocation.symbol (slot_in tables image t.row (task_slot tables t))
           (is_wide tables image t.row (task_slot tables t))) (refused 4)) skipped)
-      go true true = symbol_good_lem (symbol_of tables t.relocation) t.relocation.symbol (slot_in tables image t.row (task_slot tables t)) (is_wide tables image t.row (task_slot tables t))
+      go true true = symbol_good (symbol_of tables t.relocation) t.relocation.symbol (slot_in tables image t.row (task_slot tables t)) (is_wide tables image t.row (task_slot tables t))
       go true false = tt
       go false b = tt
 

@@ -15,11 +15,11 @@ use Rattle.rules.specs.Link.{Refusal, refusal, run}
 use Rattle.rules.specs.Tables.{Relocation, Tables, row_of, base}
 use Rattle.rules.specs.Maps.{Task, task, Verdict, skipped, refused, applies, only, task_slot, judge, tasks_of, tasks, all_tasks, refusal_by, first_refusal, applied, rewrite, rewrite_all, mapped, refuses, unless_refused, map_step}
 use Rattle.equality.specs.Crate as Crate
-use Rattle.equality.specs.Crate.{Result, ok, err, bind, with_instructions_lem, relocate_map, relocate_maps_lem, relocate_functions, object_relocate_maps}
+use Rattle.equality.specs.Crate.{Result, ok, err, bind, with_insns, relocate_map, relocate_maps, relocate_functions, object_relocate_maps}
 use Rattle.equality.specs.Domain.{Hidden, crate_function, crate_functions, crate_of, Compared, cause_of, MapDomain, with_instructions}
 use Rattle.rules.proofs.MapsInPlace.{Apart, Kept, kept_refl, kept_next}
 use Rattle.rules.proofs.MapsApart.{base_suc, base_past, Distinct, rising_distinct, Mapped, map_member, task_rows, apart_all}
-use Rattle.equality.proofs.MapsCrate.{part, part_same, by_section_lem, by_symbol_lem, Five, MapSees, one_sees}
+use Rattle.equality.proofs.MapsCrate.{part, part_same, by_section, symbol_hash, Five, MapSees, one_sees}
 use Rattle.equality.proofs.MapsCommute.{rewrite_length, all_length, all_append, all_order, keeps_outside}
 use Rattle.equality.proofs.Perms.{perm_member, perm_sym, perm_distinct}
 
@@ -96,13 +96,13 @@ module _ (tables : Tables) (hidden : Hidden) (domain : MapDomain tables hidden) 
 
   -- one function, `rels` of its section's relocations left
   abbrev runs : ℕ → List Relocation → List Insn → Result (List Insn)
-  runs row rels insns = relocate_maps_lem crate (by_section_lem tables hidden domain) (by_symbol_lem tables hidden domain) (crate_function tables hidden row) rels insns
+  runs row rels insns = relocate_maps crate (by_section tables hidden domain) (symbol_hash tables hidden domain) (crate_function tables hidden row) rels insns
 
   row_passes : (row : ℕ) (rels : List Relocation) (later : List Task) (now : List Insn) → Apart tables (map (task row) rels ++ later)
       → Kept tables orig now (map (task row) rels ++ later) → length now ≡ length orig
       → ((q : Relocation) → Memᴰ q rels → (n : ℕ) → judge tables orig (task row q) ≡ refused n → ⊥)
       → runs row rels (part tables now row) ≡ ok (part tables (rewrite_all tables orig (map (task row) rels) now) row)
-  unfolding relocate_maps_lem rewrite_all
+  unfolding relocate_maps rewrite_all
   row_passes row [] later now apart kept long fine = refl
   row_passes row (r ∷ rs) later now apart kept long fine =
       go (judge tables orig (task row r)) refl (one_sees tables hidden domain row r now (map (task row) rs ++ later) long kept)
@@ -110,10 +110,10 @@ module _ (tables : Tables) (hidden : Hidden) (domain : MapDomain tables hidden) 
       (rewrite_length tables orig v (task row r) now ∙ long) (λ q m. fine q (Memᴰ.tail m)))
     where
       go : (v : Verdict) → judge tables orig (task row r) ≡ v
-          → MapSees tables hidden domain row r now v (relocate_map crate (by_section_lem tables hidden domain) (by_symbol_lem tables hidden domain) (crate_function tables hidden row) r (part tables now row))
+          → MapSees tables hidden domain row r now v (relocate_map crate (by_section tables hidden domain) (symbol_hash tables hidden domain) (crate_function tables hidden row) r (part tables now row))
           → ((v : Verdict) → judge tables orig (task row r) ≡ v
           → runs row rs (part tables (rewrite tables v (task row r) now) row) ≡ ok (part tables (rewrite_all tables orig (map (task row) rs) (rewrite tables v (task row r) now)) row))
-          → bind (relocate_map crate (by_section_lem tables hidden domain) (by_symbol_lem tables hidden domain) (crate_function tables hidden row) r (part tables now row)) (runs row rs)
+          → bind (relocate_map crate (by_section tables hidden domain) (symbol_hash tables hidden domain) (crate_function tables hidden row) r (part tables now row)) (runs row rs)
           ≡ ok (part tables (rewrite_all tables orig (map (task row) rs) (rewrite tables v (task row r) now)) row)
       go skipped e sees next = rw sees (next skipped e)
       go (refused n) e sees next = absurd (fine r (Memᴰ.head refl) n e)
@@ -125,7 +125,7 @@ module _ (tables : Tables) (hidden : Hidden) (domain : MapDomain tables hidden) 
       → (q : Relocation) → Memᴰ q rels → judge tables orig (task row q) ≡ refused n
       → ((u : Relocation) → Memᴰ u rels → (m : ℕ) → judge tables orig (task row u) ≡ refused m → (m ≡ n) × (m ≡ 5 → Five tables hidden domain u))
       → runs row rels (part tables now row) ≡ err (cause_of n)
-  unfolding relocate_maps_lem
+  unfolding relocate_maps
   row_stops row [] later now apart kept long n c q m r all = absurd (Memᴰ.not-nil m)
   row_stops row (x ∷ xs) later now apart kept long n c q m r all =
       go (judge tables orig (task row x)) refl (one_sees tables hidden domain row x now (map (task row) xs ++ later) long kept) (Memᴰ.cases_cons m)
@@ -133,10 +133,10 @@ module _ (tables : Tables) (hidden : Hidden) (domain : MapDomain tables hidden) 
       (rewrite_length tables orig v (task row x) now ∙ long) n c q m r (λ u m. all u (Memᴰ.tail m)))
     where
       go : (v : Verdict) → judge tables orig (task row x) ≡ v
-          → MapSees tables hidden domain row x now v (relocate_map crate (by_section_lem tables hidden domain) (by_symbol_lem tables hidden domain) (crate_function tables hidden row) x (part tables now row))
+          → MapSees tables hidden domain row x now v (relocate_map crate (by_section tables hidden domain) (symbol_hash tables hidden domain) (crate_function tables hidden row) x (part tables now row))
           → (q ≡ x) ⊎ Memᴰ q xs
           → ((v : Verdict) → judge tables orig (task row x) ≡ v → Memᴰ q xs → runs row xs (part tables (rewrite tables v (task row x) now) row) ≡ err (cause_of n))
-          → bind (relocate_map crate (by_section_lem tables hidden domain) (by_symbol_lem tables hidden domain) (crate_function tables hidden row) x (part tables now row)) (runs row xs) ≡ err (cause_of n)
+          → bind (relocate_map crate (by_section tables hidden domain) (symbol_hash tables hidden domain) (crate_function tables hidden row) x (part tables now row)) (runs row xs) ≡ err (cause_of n)
       go (refused k) e sees either next =
           let a = all x (Memᴰ.head refl) k e in
           ap (λ y. bind y (runs row xs)) (sees (rw a.0 c) a.1) ∙ ap (λ m. err (cause_of m)) a.0
@@ -162,10 +162,10 @@ module _ (tables : Tables) (hidden : Hidden) (domain : MapDomain tables hidden) 
   theirs_distinct row = perm_distinct (domain.clauses.orders.order (row_of tables row).home) (ours_distinct row)
 
   abbrev functions_run : ℕ → ℕ → Result (List Crate.Function)
-  functions_run from count = relocate_functions crate (by_section_lem tables hidden domain) (by_symbol_lem tables hidden domain) (run (crate_function tables hidden) from count)
+  functions_run from count = relocate_functions crate (by_section tables hidden domain) (symbol_hash tables hidden domain) (run (crate_function tables hidden) from count)
 
   abbrev result : List Insn → ℕ → ℕ → List Crate.Function
-  result final from count = run (λ row. with_instructions_lem (crate_function tables hidden row) (part tables final row)) from count
+  result final from count = run (λ row. with_insns (crate_function tables hidden row) (part tables final row)) from count
 
   -- the state before the functions from `from` on
   record Ready (from count : ℕ) (now : List Insn) : Type 0 where
@@ -200,19 +200,19 @@ module _ (tables : Tables) (hidden : Hidden) (domain : MapDomain tables hidden) 
   unfolding relocate_functions rewrite_all crate_of
   functions_pass from zero now ready fine = refl
   functions_pass from (suc count) now ready fine =
-      ap (λ x. bind x (λ insns. bind (functions_run (suc from) count) (λ rest. ok (with_instructions_lem (crate_function tables hidden from) insns ∷ rest))))
+      ap (λ x. bind x (λ insns. bind (functions_run (suc from) count) (λ rest. ok (with_insns (crate_function tables hidden from) insns ∷ rest))))
       (ap (runs from (theirs from)) (same_part from count now ready)
       ∙ row_passes from (theirs from) (their_tasks (suc from) count) now (apart_from from (suc count)) ready.kept ready.long
       (λ q m. fine (task from q) (Memᴰ.append_left (their_tasks (suc from) count) (map_in (task from) q (theirs from) m))))
-      ∙ ap (λ x. bind x (λ rest. ok (with_instructions_lem (crate_function tables hidden from) (part tables (rewrite_all tables orig (map (task from) (theirs from)) now) from) ∷ rest)))
+      ∙ ap (λ x. bind x (λ rest. ok (with_insns (crate_function tables hidden from) (part tables (rewrite_all tables orig (map (task from) (theirs from)) now) from) ∷ rest)))
       (functions_pass (suc from) count (rewrite_all tables orig (map (task from) (theirs from)) now) (ready_next from count now ready)
       (λ t m. fine t (Memᴰ.append_right (map (task from) (theirs from)) m)))
-      ∙ rw (all_append tables orig (map (task from) (theirs from)) (their_tasks (suc from) count) now)
-      (ap (λ p. ok (with_instructions_lem (crate_function tables hidden from) p ∷ result (rewrite_all tables orig (their_tasks (suc from) count) (rewrite_all tables orig (map (task from) (theirs from)) now)) (suc from) count))
+      ∙ ap (λ p. ok (with_insns (crate_function tables hidden from) p ∷ result (rewrite_all tables orig (their_tasks (suc from) count) (rewrite_all tables orig (map (task from) (theirs from)) now)) (suc from) count))
       (part_same tables (rewrite_all tables orig (map (task from) (theirs from)) now)
       (rewrite_all tables orig (their_tasks (suc from) count) (rewrite_all tables orig (map (task from) (theirs from)) now)) from
       (λ k l. sym (keeps_outside tables orig (their_tasks (suc from) count) (base tables from + k) (λ t m. inl (below k l t (task_rows tables theirs (suc from) count t m).0))
-      (rewrite_all tables orig (map (task from) (theirs from)) now)))))
+      (rewrite_all tables orig (map (task from) (theirs from)) now))))
+      ∙ ap (λ image. ok (result image from (suc count))) (sym (all_append tables orig (map (task from) (theirs from)) (their_tasks (suc from) count) now))
     where
       below : (k : ℕ) → k < (row_of tables from).slots → (t : Task) → suc from ≤ t.row → base tables from + k < base tables t.row
       below k l t b = omega (arith, base_past tables from t.row b)
@@ -278,7 +278,7 @@ module _ (tables : Tables) (hidden : Hidden) (domain : MapDomain tables hidden) 
         within_row t m = within t (Memᴰ.append_left (tasks tables (tasks_of tables) (suc from) count) m)
 
         rest : List Insn → Result (List Crate.Function)
-        rest insns = bind (functions_run (suc from) count) (λ rest. ok (with_instructions_lem (crate_function tables hidden from) insns ∷ rest))
+        rest insns = bind (functions_run (suc from) count) (λ rest. ok (with_insns (crate_function tables hidden from) insns ∷ rest))
 
         go : (o : Option Refusal) → first_refusal tables orig (tasks_of tables from) ≡ o
             → or_later tables orig o (first_refusal tables orig (tasks tables (tasks_of tables) (suc from) count)) ≡ some why
@@ -294,7 +294,7 @@ module _ (tables : Tables) (hidden : Hidden) (domain : MapDomain tables hidden) 
             (ap (runs from (theirs from)) (same_part from count now ready)
             ∙ row_passes from (theirs from) (their_tasks (suc from) count) now (apart_from from (suc count)) ready.kept ready.long
             (λ q m. none_refused tables orig (tasks_of tables from) f (task from q) (map_in (task from) q (ours from) (to_ours from q m))))
-            ∙ ap (λ x. bind x (λ rest. ok (with_instructions_lem (crate_function tables hidden from) (part tables (rewrite_all tables orig (map (task from) (theirs from)) now) from) ∷ rest))) (later e)
+            ∙ ap (λ x. bind x (λ rest. ok (with_insns (crate_function tables hidden from) (part tables (rewrite_all tables orig (map (task from) (theirs from)) now) from) ∷ rest))) (later e)
 
   start : Ready 0 (length tables.functions) orig
   start = record { kept = kept_refl tables orig (their_tasks 0 (length tables.functions)); long = refl; untouched = λ k l. refl }

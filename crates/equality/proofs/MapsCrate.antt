@@ -21,7 +21,7 @@ use Rattle.rules.specs.Link.{run}
 use Rattle.rules.specs.Bytes.{Fits, half32, with_immediate, with_source}
 use Rattle.rules.specs.Tables.{SymbolKind, other, text, section, Symbol, Relocation, MapRow, Tables, first, row_of, base, is_code}
 use Rattle.rules.specs.Maps.{Task, task, change, Verdict, skipped, refused, applies, is_symbol, has_none, fits32, inside, on_grid, or_else, map_for, by_data, by_map, by_kind, by_home, by_symbol, is_wide, symbol_of, task_slot, judge, at, changed, place}
-use Rattle.equality.specs.Crate.{HashMap, insert, new, Result, ok, err, add_u64, i32, add_i32, insn_is_call_lem, maps_by_section, maps_by_symbol, insert_symbol, set_map, with_map, find_map_lem, in_section, with_symbol, relocate_map, invalid_relocation_offset}
+use Rattle.equality.specs.Crate.{HashMap, insert, new, Result, ok, err, add_u64, i32, add_i32, insn_is_call, maps_by_section, maps_by_symbol, insert_symbol, set_map, with_map, find_map, in_section, with_symbol, relocate_map, invalid_relocation_offset}
 use Rattle.equality.specs.Domain.{Hidden, crate_function, crate_of, Compared, cause_of, Perm, done, keep, swap, both, Once, MapDomain}
 use Rattle.rules.proofs.Linking.{length_run, run_at}
 use Rattle.equality.proofs.Numbers.{same_call, value_exact}
@@ -208,11 +208,11 @@ outside_not offset slots at = go (leb offset at) (ltb at (offset + 8 * slots)) r
     go false b p q = rw (lt-ltb at offset (leb-false offset at p)) refl
 
 module _ (tables : Tables) (hidden : Hidden) (domain : MapDomain tables hidden) where
-  abbrev pub by_section_lem : HashMap MapRow
-  by_section_lem = maps_by_section hidden.maps new
+  abbrev pub by_section : HashMap MapRow
+  by_section = maps_by_section hidden.maps new
 
-  abbrev pub by_symbol_lem : HashMap MapRow
-  by_symbol_lem = maps_by_symbol hidden.maps new
+  abbrev pub symbol_hash : HashMap MapRow
+  symbol_hash = maps_by_symbol hidden.maps new
 
   home_of : (home : ℕ) (x : MapRow) → (eqb x.home home && has_none x.symbol) ≡ true → x.home ≡ home
   home_of home x e = go (eqb x.home home) refl e
@@ -236,38 +236,38 @@ module _ (tables : Tables) (hidden : Hidden) (domain : MapDomain tables hidden) 
   our_map : (x : MapRow) → Memᴰ x hidden.maps → Memᴰ x tables.maps
   our_map x k = perm_member x domain.clauses.orders.map_order k
 
-  not_symbol : (symbol : ℕ) → first (λ x. is_symbol symbol x.symbol) tables.maps ≡ none → by_symbol_lem symbol ≡ none
+  not_symbol : (symbol : ℕ) → first (λ x. is_symbol symbol x.symbol) tables.maps ≡ none → symbol_hash symbol ≡ none
   not_symbol symbol e =
       symbol_kept symbol hidden.maps new
       (first_none (λ x. is_symbol symbol x.symbol) hidden.maps (λ x k. none_passes (λ x. is_symbol symbol x.symbol) tables.maps e x (our_map x k)))
 
   -- the map found, or none where no map has the section
-  map_found : (symbol home : ℕ) (m : MapRow) → map_for tables symbol home ≡ some m → find_map_lem (crate_of tables hidden) by_section_lem by_symbol_lem (by_symbol_lem symbol) home ≡ some m
+  map_found : (symbol home : ℕ) (m : MapRow) → map_for tables symbol home ≡ some m → find_map (crate_of tables hidden) by_section symbol_hash (symbol_hash symbol) home ≡ some m
   map_found symbol home m e = go (first (λ x. is_symbol symbol x.symbol) tables.maps) refl e
     where
       go : (o : Option MapRow) → first (λ x. is_symbol symbol x.symbol) tables.maps ≡ o
           → or_else o (first (λ m. eqb m.home home && has_none m.symbol) tables.maps) ≡ some m
-          → find_map_lem (crate_of tables hidden) by_section_lem by_symbol_lem (by_symbol_lem symbol) home ≡ some m
+          → find_map (crate_of tables hidden) by_section symbol_hash (symbol_hash symbol) home ≡ some m
       go (some x) f e =
           let k = first_found (λ x. is_symbol symbol x.symbol) tables.maps m (f ∙ e) in
-          ap (λ o. find_map_lem (crate_of tables hidden) by_section_lem by_symbol_lem o home)
+          ap (λ o. find_map (crate_of tables hidden) by_section symbol_hash o home)
           (by_symbol_found symbol m hidden.maps new (perm_once domain.clauses.orders.map_order domain.once) (theirs_map m k.0) k.1)
       go none f e =
           let k = first_found (λ m. eqb m.home home && has_none m.symbol) tables.maps m e in
-          ap (λ o. find_map_lem (crate_of tables hidden) by_section_lem by_symbol_lem o home) (not_symbol symbol f)
+          ap (λ o. find_map (crate_of tables hidden) by_section symbol_hash o home) (not_symbol symbol f)
           ∙ section_found home m hidden.maps new
           (λ x among h. domain.clauses.alone m x k.0 (our_map x among) (symbol_of_lem home m k.1) (h ∙ sym (home_of home m k.1))) (theirs_map m k.0) (home_of home m k.1)
 
   map_missing : (symbol home : ℕ) → map_for tables symbol home ≡ none → ((m : MapRow) → Memᴰ m tables.maps → m.home ≢ home)
-      → find_map_lem (crate_of tables hidden) by_section_lem by_symbol_lem (by_symbol_lem symbol) home ≡ none
+      → find_map (crate_of tables hidden) by_section symbol_hash (symbol_hash symbol) home ≡ none
   map_missing symbol home e all = go (first (λ x. is_symbol symbol x.symbol) tables.maps) refl e
     where
       go : (o : Option MapRow) → first (λ x. is_symbol symbol x.symbol) tables.maps ≡ o
           → or_else o (first (λ m. eqb m.home home && has_none m.symbol) tables.maps) ≡ none
-          → find_map_lem (crate_of tables hidden) by_section_lem by_symbol_lem (by_symbol_lem symbol) home ≡ none
+          → find_map (crate_of tables hidden) by_section symbol_hash (symbol_hash symbol) home ≡ none
       go (some x) f e = let z : ◌≡◌ {A = ℕ} 0 1 = cc in absurd (omega arith)
       go none f e =
-          ap (λ o. find_map_lem (crate_of tables hidden) by_section_lem by_symbol_lem o home) (not_symbol symbol f)
+          ap (λ o. find_map (crate_of tables hidden) by_section symbol_hash o home) (not_symbol symbol f)
           ∙ section_none home hidden.maps new (λ x k. all x (our_map x k)) refl
 
   -- what 5 asks of the domain, for one relocation
@@ -292,7 +292,7 @@ module _ (tables : Tables) (hidden : Hidden) (domain : MapDomain tables hidden) 
 
     data_sees : (d : Bool) (fd : ℤ) (address : ℕ) → Live tables (task row r) → Wide tables tables.instructions row k
         → MapSees row r now (by_data tables d fd (orig.immediate +ℤ pos address))
-        (set_map crate by_section_lem by_symbol_lem d (ltb (suc k) (length (part tables now row))) fd address k (part tables now row))
+        (set_map crate by_section symbol_hash d (ltb (suc k) (length (part tables now row))) fd address k (part tables now row))
     data_sees false fd address live wide =
         ap ok (part_none tables now row k fd (omega (arith, wide.below)) (omega (arith, wide.below, domain.whole row, long)))
     data_sees true fd address live wide = go (fits32 (orig.immediate +ℤ pos address)) refl
@@ -307,7 +307,7 @@ module _ (tables : Tables) (hidden : Hidden) (domain : MapDomain tables hidden) 
 
         go : (b : Bool) → fits32 (orig.immediate +ℤ pos address) ≡ b
             → MapSees row r now (cond b (applies (change fd (some (orig.immediate +ℤ pos address)))) (refused 7))
-            (set_map crate by_section_lem by_symbol_lem true (ltb (suc k) (length (part tables now row))) fd address k (part tables now row))
+            (set_map crate by_section symbol_hash true (ltb (suc k) (length (part tables now row))) fd address k (part tables now row))
         go true e =
             rw (part_length tables now row, lt-ltb (suc k) (row_of tables row).slots wide.below, value e)
             (ap ok (part_some tables now row k fd (orig.immediate +ℤ pos address) wide.below (omega (arith, wide.below, domain.whole row, long))))
@@ -316,16 +316,16 @@ module _ (tables : Tables) (hidden : Hidden) (domain : MapDomain tables hidden) 
     map_sees : (o : Option MapRow) (w : Bool) (address home : ℕ) → Live tables (task row r) → is_wide tables tables.instructions row k ≡ w
         → map_for tables r.symbol home ≡ o → (Five r → (m : MapRow) → Memᴰ m tables.maps → m.home ≢ home)
         → MapSees row r now (by_map tables o w (orig.immediate +ℤ pos address))
-        (with_map crate by_section_lem by_symbol_lem (find_map_lem crate by_section_lem by_symbol_lem (by_symbol_lem r.symbol) home) address k (part tables now row))
+        (with_map crate by_section symbol_hash (find_map crate by_section symbol_hash (symbol_hash r.symbol) home) address k (part tables now row))
     map_sees none w address home live e m five =
-        λ c f. ap (λ o. with_map crate by_section_lem by_symbol_lem o address k (part tables now row)) (map_missing r.symbol home m (five (f refl)))
+        λ c f. ap (λ o. with_map crate by_section symbol_hash o address k (part tables now row)) (map_missing r.symbol home m (five (f refl)))
     map_sees (some x) true address home live e m five =
         rw (map_found r.symbol home x m) (data_sees x.has_data x.fd address live (wide_is tables tables.instructions row k e))
     map_sees (some x) false address home live e m five = λ c f. absurd (not_6 c)
 
     kind_sees : (kind : SymbolKind) (s : Symbol) (home : ℕ) → Live tables (task row r) → symbol_of tables r ≡ some s → s.home ≡ some home → s.kind ≡ kind
         → MapSees row r now (by_kind tables kind (map_for tables r.symbol home) (is_wide tables tables.instructions row k) (orig.immediate +ℤ pos s.address))
-        (with_map crate by_section_lem by_symbol_lem (find_map_lem crate by_section_lem by_symbol_lem (by_symbol_lem r.symbol) home) s.address k (part tables now row))
+        (with_map crate by_section symbol_hash (find_map crate by_section symbol_hash (symbol_hash r.symbol) home) s.address k (part tables now row))
     kind_sees text s home live sy h e = λ c f. absurd ((f refl s home sy h).0 e)
     kind_sees other s home live sy h e =
         map_sees (map_for tables r.symbol home) (is_wide tables tables.instructions row k) s.address home live refl refl (λ f. (f s home sy h).1)
@@ -334,29 +334,29 @@ module _ (tables : Tables) (hidden : Hidden) (domain : MapDomain tables hidden) 
 
     home_sees : (o : Option ℕ) (s : Symbol) → Live tables (task row r) → k < (row_of tables row).slots → symbol_of tables r ≡ some s → s.home ≡ o
         → MapSees row r now (by_home tables o s r.symbol orig (is_wide tables tables.instructions row k))
-        (in_section crate by_section_lem by_symbol_lem o s r k (part tables now row))
+        (in_section crate by_section symbol_hash o s r k (part tables now row))
     unfolding crate_of
     home_sees none s live below sy h = refl
     home_sees (some home) s live below sy h = rw call (go (is_call orig || is_code tables home))
       where
-        call : insn_is_call_lem (slot_at (part tables now row) k) ≡ is_call orig
+        call : insn_is_call (slot_at (part tables now row) k) ≡ is_call orig
         call =
-            ap insn_is_call_lem (part_slot tables now row k below)
+            ap insn_is_call (part_slot tables now row k below)
             ∙ same_call (slot_at now (place tables (task row r))) (rw (kept.like (place tables (task row r))).opcode (domain.limits.plain (base tables row + k)).byte)
             ∙ like_call (kept.like (place tables (task row r)))
 
         go : (b : Bool) → MapSees row r now
             (cond b skipped (by_kind tables s.kind (map_for tables r.symbol home) (is_wide tables tables.instructions row k) (orig.immediate +ℤ pos s.address)))
-            (cond b (ok (part tables now row)) (with_map crate by_section_lem by_symbol_lem (find_map_lem crate by_section_lem by_symbol_lem (by_symbol_lem r.symbol) home) s.address k (part tables now row)))
+            (cond b (ok (part tables now row)) (with_map crate by_section symbol_hash (find_map crate by_section symbol_hash (symbol_hash r.symbol) home) s.address k (part tables now row)))
         go true = refl
         go false = kind_sees s.kind s home live sy h refl
 
     symbol_sees : (o : Option Symbol) → Live tables (task row r) → k < (row_of tables row).slots → symbol_of tables r ≡ o
-        → MapSees row r now (by_symbol tables o r.symbol orig (is_wide tables tables.instructions row k)) (with_symbol crate by_section_lem by_symbol_lem o r k (part tables now row))
+        → MapSees row r now (by_symbol tables o r.symbol orig (is_wide tables tables.instructions row k)) (with_symbol crate by_section symbol_hash o r k (part tables now row))
     symbol_sees none live below sy = λ c f. refl
     symbol_sees (some s) live below sy = home_sees s.home s live below sy refl
 
-    pub one_sees : MapSees row r now (judge tables tables.instructions (task row r)) (relocate_map crate by_section_lem by_symbol_lem (crate_function tables hidden row) r (part tables now row))
+    pub one_sees : MapSees row r now (judge tables tables.instructions (task row r)) (relocate_map crate by_section symbol_hash (crate_function tables hidden row) r (part tables now row))
     unfolding judge relocate_map crate_of add_u64
     one_sees =
         rw (length_run (λ slot. slot_at tables.instructions (base tables row + slot)) 0 (row_of tables row).slots, exact, outside_not (row_of tables row).offset (row_of tables row).slots r.offset)
@@ -367,9 +367,9 @@ module _ (tables : Tables) (hidden : Hidden) (domain : MapDomain tables hidden) 
 
         go : (a b : Bool) → inside (row_of tables row) r ≡ a → on_grid (row_of tables row) r ≡ b
             → MapSees row r now (cond a (cond b (by_symbol tables (symbol_of tables r) r.symbol orig (is_wide tables tables.instructions row k)) (refused 4)) skipped)
-            (cond (not a) (ok (part tables now row)) (cond (not b) (err invalid_relocation_offset) (with_symbol crate by_section_lem by_symbol_lem (symbol_of tables r) r k (part tables now row))))
+            (cond (not a) (ok (part tables now row)) (cond (not b) (err invalid_relocation_offset) (with_symbol crate by_section symbol_hash (symbol_of tables r) r k (part tables now row))))
         go true true p q =
-            let live : Live tables (task row r) = record { in_bytes = p; on_grid_lem = q } in
+            let live : Live tables (task row r) = record { in_bytes = p; on_the_grid = q } in
             symbol_sees (symbol_of tables r) live (live_spot tables (task row r) live).slot_below refl
         go true false p q = λ c f. refl
         go false b p q = refl

@@ -19,7 +19,7 @@ use Rattle.rules.specs.Maps.{Task, task, is_symbol, has_none, symbol_of, all_tas
 use Rattle.rules.specs.Records.{image_functions, image_lines, admits, link_step, room_for, stray_line}
 use Rattle.equality.specs.Met.{visit_met, append_met, link_met}
 use Rattle.equality.specs.Crate as Crate
-use Rattle.equality.specs.Crate.{u32, u64, i32, add_u64, mul_u64, add_u32, sub_u32, add_i32, sub_i32, insn_is_call_lem, Result, ok, err, panics, too_deep, Error, Linker, relocate_map, relocate_maps_lem, relocate_functions, object_relocate_maps, slot_of, relocate_from, relocate, link_new, relocate_calls}
+use Rattle.equality.specs.Crate.{u32, u64, i32, add_u64, mul_u64, add_u32, sub_u32, add_i32, sub_i32, insn_is_call, Result, ok, err, panics, too_deep, Error, Linker, relocate_map, relocate_maps, relocate_functions, object_relocate_maps, slot_of, relocate_from, relocate, link_new, relocate_calls}
 use Rattle.equality.specs.Domain.{crate_of, cause_of, reached}
 use Rattle.equality.specs.Demand2.{both_steps, with_functions, Answer, image, refusal, endless, by_link, our_steps, Clause, valid_tables, compared_only, one_refusable, five_not_text, five_no_map, map_alone, Call-Below, reference_below, callees_differ, function_count, line_count, Domain, Except, Equal, EqualWithin}
 use Rattle.equality.proofs.Inputs.{Input, hidden_of, full_room, symbol, relocation, map_row, unknown_symbol, two_programs, found_by_section, inputs_for}
@@ -136,7 +136,7 @@ others line_count = refl
 
 -- and the two answers differ on it
 apart : (x : Clause) → allb differs (inputs_for x) ≡ true
-unfolding is_call is_blank is_wide_load decide meaning displacement calling referring visit append link signed object_of judge first_refusal applied rewrite_all map_step image_functions image_lines admits room_for stray_line link_step u32 u64 i32 add_u64 mul_u64 add_u32 sub_u32 add_i32 sub_i32 insn_is_call_lem relocate_map relocate_maps_lem relocate_functions object_relocate_maps slot_of relocate_from relocate link_new Crate.link relocate_calls crate_of both_steps our_steps
+unfolding is_call is_blank is_wide_load decide meaning displacement calling referring visit append link signed object_of judge first_refusal applied rewrite_all map_step image_functions image_lines admits room_for stray_line link_step u32 u64 i32 add_u64 mul_u64 add_u32 sub_u32 add_i32 sub_i32 insn_is_call relocate_map relocate_maps relocate_functions object_relocate_maps slot_of relocate_from relocate link_new Crate.link relocate_calls crate_of both_steps our_steps
 apart valid_tables = refl
 apart compared_only = refl
 apart one_refusable = refl
@@ -187,7 +187,7 @@ linked_alone i = relocate_calls (crate_of i.tables (hidden_of i)) (row_of i.tabl
 
 pub maps_first : Domain unknown_symbol.tables (hidden_of unknown_symbol) full_room 0
     × (Equal unknown_symbol.tables 0 (by_link (link_step unknown_symbol.tables full_room 0)) (linked_alone unknown_symbol) → ⊥)
-unfolding is_call is_blank is_wide_load decide meaning displacement calling referring visit append link signed object_of judge first_refusal applied rewrite_all map_step image_functions image_lines admits room_for stray_line link_step u32 u64 i32 add_u64 mul_u64 add_u32 sub_u32 add_i32 sub_i32 insn_is_call_lem relocate_map relocate_maps_lem relocate_functions object_relocate_maps slot_of relocate_from relocate link_new Crate.link relocate_calls crate_of both_steps our_steps visit_met append_met link_met reached
+unfolding is_call is_blank is_wide_load decide meaning displacement calling referring visit append link signed object_of judge first_refusal applied rewrite_all map_step image_functions image_lines admits room_for stray_line link_step u32 u64 i32 add_u64 mul_u64 add_u32 sub_u32 add_i32 sub_i32 insn_is_call relocate_map relocate_maps relocate_functions object_relocate_maps slot_of relocate_from relocate link_new Crate.link relocate_calls crate_of both_steps our_steps visit_met append_met link_met reached
 maps_first = (
   domain_by unknown_symbol refl,
   λ same. let z : ◌≡◌ {A = ℕ} 0 1 = cc in omega arith,
@@ -202,9 +202,9 @@ put_back section_index address linker f =
       section_index = f.section_index;
       section_offset = f.section_offset;
       instructions = linker.instructions;
-      func_info_lem = linker.func_info_lem;
+      func_info = linker.func_info;
       func_num_info = linker.func_num_info;
-      line_info_lem = linker.line_info_lem;
+      line_info = linker.line_info;
       line_num_info = linker.line_num_info;
     })
     f
@@ -217,7 +217,7 @@ two_linked object home address home' address' =
 -- A and then the root: A's own call, which the first link rewrote, leads to no function
 pub only_program : Domain two_programs.tables (hidden_of two_programs) full_room 1
     × (Equal two_programs.tables 1 (our_steps two_programs.tables full_room 1) (two_linked (crate_of two_programs.tables (hidden_of two_programs)) 1 0 1 16) → ⊥)
-unfolding is_call is_blank is_wide_load decide meaning displacement calling referring visit append link signed object_of judge first_refusal applied rewrite_all map_step image_functions image_lines admits room_for stray_line link_step u32 u64 i32 add_u64 mul_u64 add_u32 sub_u32 add_i32 sub_i32 insn_is_call_lem relocate_map relocate_maps_lem relocate_functions object_relocate_maps slot_of relocate_from relocate link_new Crate.link relocate_calls crate_of both_steps our_steps visit_met append_met link_met reached
+unfolding is_call is_blank is_wide_load decide meaning displacement calling referring visit append link signed object_of judge first_refusal applied rewrite_all map_step image_functions image_lines admits room_for stray_line link_step u32 u64 i32 add_u64 mul_u64 add_u32 sub_u32 add_i32 sub_i32 insn_is_call relocate_map relocate_maps relocate_functions object_relocate_maps slot_of relocate_from relocate link_new Crate.link relocate_calls crate_of both_steps our_steps visit_met append_met link_met reached
 only_program = (
   domain_by two_programs refl,
   λ same. let e = same.is_ok in let z : ◌≡◌ {A = ℕ} 0 1 = cc in omega arith,

@@ -11,7 +11,7 @@ use borrow.Author.Tests.{lt-ltb, le-ltb, ltb-true, ltb-false, eqb-true, eqb-fals
 use Rattle.rules.specs.Object.{Insn, is_zero, is_call, displacement}
 use Rattle.rules.specs.Bytes.{signed, Fits, half32}
 use Rattle.rules.specs.Tables.{is_at}
-use Rattle.equality.specs.Crate.{modulo, 2³², 2⁶⁴, u32, u64, i32, add_u64, mul_u64, add_u32, sub_u32, add_i32, sub_i32, insn_is_call_lem}
+use Rattle.equality.specs.Crate.{modulo, 2³², 2⁶⁴, u32, u64, i32, add_u64, mul_u64, add_u32, sub_u32, add_i32, sub_i32, insn_is_call}
 use Rattle.equality.specs.Domain.{2⁴⁸, top_immediate}
 use Rattle.rules.proofs.Writing.{displacement_fits}
 use Rattle.rules.specs.Rows.{most_image_slots}
@@ -210,8 +210,8 @@ same_order true false true z = refl
 same_order true true false z = refl
 same_order true true true z = refl
 
-pub same_call : (i : Insn) → i.opcode < 256 → insn_is_call_lem i ≡ is_call i
-unfolding insn_is_call_lem is_call
+pub same_call : (i : Insn) → i.opcode < 256 → insn_is_call i ≡ is_call i
+unfolding insn_is_call is_call
 same_call i l = ap (λ x. x && eqb i.source 1 && eqb i.destination 0 && is_zero i.offset) (opcode_call i.opcode l) ∙ same_order (eqb i.opcode 0x85) (eqb i.source 1) (eqb i.destination 0) (is_zero i.offset)
 
 -- the records

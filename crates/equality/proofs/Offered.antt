@@ -102,16 +102,16 @@ module _ (order : Order) (o : Offered) (passed : map_step_refusal o ≡ none) wh
   rows = whole_rows Functions o.functions
 
   -- a number that no row is has no function
-  no_row_lem : (row : ℕ) → rows ≤ row → row_of tables row ≡ no_function
+  row_missing : (row : ℕ) → rows ≤ row → row_of tables row ≡ no_function
   unfolding rows
-  no_row_lem row l = get_or-eq_default tables.functions no_function {n = row} (omega (arith, rows_are order o))
+  row_missing row l = get_or-eq_default tables.functions no_function {n = row} (omega (arith, rows_are order o))
 
   by_row : (Good : Function → Type 0) → Good no_function → ((row : ℕ) → row < rows → Good (row_of tables row)) → (row : ℕ) → Good (row_of tables row)
   by_row Good blank good row = go (dec_lt row rows)
     where
       go : Dec (row < rows) → Good (row_of tables row)
       go (yes l) = good row l
-      go (no n) = subst Good (sym (no_row_lem row (omega arith))) blank
+      go (no n) = subst Good (sym (row_missing row (omega arith))) blank
 
   pub addresses_low : (row : ℕ) → (row_of tables row).address < 2⁴⁸
   unfolding rows

@@ -16,7 +16,7 @@ use Rattle.rules.specs.Tables.{SymbolKind, other, text, section, Symbol, Functio
 use Rattle.rules.specs.Maps.{only, judge, first_refusal, applied, rewrite_all, map_step}
 use Rattle.rules.specs.Records.{Room, image_functions, image_lines, admits, link_step, room_for, stray_line}
 use Rattle.equality.specs.Crate as Crate
-use Rattle.equality.specs.Crate.{u32, u64, i32, add_u64, mul_u64, add_u32, sub_u32, add_i32, sub_i32, insn_is_call_lem, Result, ok, err, panics, too_deep, Error, unknown_function, invalid_relocation_offset, Linker, relocate_map, relocate_maps_lem, relocate_functions, object_relocate_maps, slot_of, relocate_from, relocate, link_new, relocate_calls}
+use Rattle.equality.specs.Crate.{u32, u64, i32, add_u64, mul_u64, add_u32, sub_u32, add_i32, sub_i32, insn_is_call, Result, ok, err, panics, too_deep, Error, unknown_function, invalid_relocation_offset, Linker, relocate_map, relocate_maps, relocate_functions, object_relocate_maps, slot_of, relocate_from, relocate, link_new, relocate_calls}
 use Rattle.equality.specs.Domain.{Hidden, crate_of}
 use Rattle.equality.specs.Demand2.{both_steps, Answer, image, refusal, endless, our_steps}
 
@@ -116,7 +116,7 @@ inside : (
     ∷ (gives (decoded little (load 0x41 2 ++ (zeros ++ (exits ++ exits)))) ∷ gives (decoded little (load 0x41 2 ++ (zeros ++ (exits ++ exits)))) ∷ [])
     ∷ (gives (decoded little (load 0x21 7 ++ (insn 0 0 20 0 0 0 ++ exits))) ∷ gives (decoded little (load 0x21 7 ++ (insn 0 0 20 0 0 0 ++ exits))) ∷ [])
     ∷ [])
-unfolding is_call is_blank is_wide_load decide meaning displacement calling referring visit append link signed u16_at u32_at decode decoded object_of judge first_refusal applied rewrite_all map_step image_functions image_lines admits room_for stray_line link_step u32 u64 i32 add_u64 mul_u64 add_u32 sub_u32 add_i32 sub_i32 insn_is_call_lem relocate_map relocate_maps_lem relocate_functions object_relocate_maps slot_of relocate_from relocate link_new Crate.link relocate_calls crate_of both_steps our_steps
+unfolding is_call is_blank is_wide_load decide meaning displacement calling referring visit append link signed u16_at u32_at decode decoded object_of judge first_refusal applied rewrite_all map_step image_functions image_lines admits room_for stray_line link_step u32 u64 i32 add_u64 mul_u64 add_u32 sub_u32 add_i32 sub_i32 insn_is_call relocate_map relocate_maps relocate_functions object_relocate_maps slot_of relocate_from relocate link_new Crate.link relocate_calls crate_of both_steps our_steps
 inside = refl
 
 outside : (
@@ -163,7 +163,7 @@ outside : (
     ∷ (refuses_by 8 ∷ panicked ∷ [])
     ∷ (refuses_by 9 ∷ gives (decoded little (call_of 0 0 ++ calls_next)) ∷ [])
     ∷ [])
-unfolding is_call is_blank is_wide_load decide meaning displacement calling referring visit append link signed u16_at u32_at decode decoded object_of judge first_refusal applied rewrite_all map_step image_functions image_lines admits room_for stray_line link_step u32 u64 i32 add_u64 mul_u64 add_u32 sub_u32 add_i32 sub_i32 insn_is_call_lem relocate_map relocate_maps_lem relocate_functions object_relocate_maps slot_of relocate_from relocate link_new Crate.link relocate_calls crate_of both_steps our_steps
+unfolding is_call is_blank is_wide_load decide meaning displacement calling referring visit append link signed u16_at u32_at decode decoded object_of judge first_refusal applied rewrite_all map_step image_functions image_lines admits room_for stray_line link_step u32 u64 i32 add_u64 mul_u64 add_u32 sub_u32 add_i32 sub_i32 insn_is_call relocate_map relocate_maps relocate_functions object_relocate_maps slot_of relocate_from relocate link_new Crate.link relocate_calls crate_of both_steps our_steps
 outside = refl
 
 -- the counts of function records: ours, and the crate's `num_info`
@@ -199,7 +199,7 @@ counts tables =
 
 -- num_info is not the record count: it stays where nothing is appended, and is set where something is
 outside_counts : (counts (recorded exits) ∷ counts (recorded calls_next) ∷ []) ≡ (1 ∷ 5 ∷ []) ∷ (2 ∷ 2 ∷ []) ∷ []
-unfolding is_call is_blank is_wide_load decide meaning displacement calling referring visit append link signed u16_at u32_at decode decoded object_of judge first_refusal applied rewrite_all map_step image_functions image_lines admits room_for stray_line link_step u32 u64 i32 add_u64 mul_u64 add_u32 sub_u32 add_i32 sub_i32 insn_is_call_lem relocate_map relocate_maps_lem relocate_functions object_relocate_maps slot_of relocate_from relocate link_new Crate.link relocate_calls crate_of both_steps our_steps
+unfolding is_call is_blank is_wide_load decide meaning displacement calling referring visit append link signed u16_at u32_at decode decoded object_of judge first_refusal applied rewrite_all map_step image_functions image_lines admits room_for stray_line link_step u32 u64 i32 add_u64 mul_u64 add_u32 sub_u32 add_i32 sub_i32 insn_is_call relocate_map relocate_maps relocate_functions object_relocate_maps slot_of relocate_from relocate link_new Crate.link relocate_calls crate_of both_steps our_steps
 outside_counts = refl
 
 -- the link alone, without the map step before it: a relocation of an exit to an unknown symbol. Ours is 3, the crate copies
@@ -212,7 +212,7 @@ seen_link (refuses why) = refuses_by why.number
 seen_link unfinished = never
 
 outside_alone : (seen_link (link_step alone room 0) ∷ seen_crate (relocate_calls (crate_of alone (hidden_by same alone)) 1 0) ∷ []) ≡ refuses_by 3 ∷ gives (decoded little exits) ∷ []
-unfolding is_call is_blank is_wide_load decide meaning displacement calling referring visit append link signed u16_at u32_at decode decoded object_of judge first_refusal applied rewrite_all map_step image_functions image_lines admits room_for stray_line link_step u32 u64 i32 add_u64 mul_u64 add_u32 sub_u32 add_i32 sub_i32 insn_is_call_lem relocate_map relocate_maps_lem relocate_functions object_relocate_maps slot_of relocate_from relocate link_new Crate.link relocate_calls crate_of both_steps our_steps
+unfolding is_call is_blank is_wide_load decide meaning displacement calling referring visit append link signed u16_at u32_at decode decoded object_of judge first_refusal applied rewrite_all map_step image_functions image_lines admits room_for stray_line link_step u32 u64 i32 add_u64 mul_u64 add_u32 sub_u32 add_i32 sub_i32 insn_is_call relocate_map relocate_maps relocate_functions object_relocate_maps slot_of relocate_from relocate link_new Crate.link relocate_calls crate_of both_steps our_steps
 outside_alone = refl
 
 -- outside the domain as written, and still equal: a call with immediate 2,147,483,647 by a Text symbol, and a size-64 reference with it
@@ -224,5 +224,5 @@ spare : (
     (gives (decoded little (call_of 0 0 ++ calls_next)) ∷ gives (decoded little (call_of 0 0 ++ calls_next)) ∷ [])
     ∷ (gives (decoded little (call_of 0 0 ++ calls_next)) ∷ gives (decoded little (call_of 0 0 ++ calls_next)) ∷ [])
     ∷ [])
-unfolding is_call is_blank is_wide_load decide meaning displacement calling referring visit append link signed u16_at u32_at decode decoded object_of judge first_refusal applied rewrite_all map_step image_functions image_lines admits room_for stray_line link_step u32 u64 i32 add_u64 mul_u64 add_u32 sub_u32 add_i32 sub_i32 insn_is_call_lem relocate_map relocate_maps_lem relocate_functions object_relocate_maps slot_of relocate_from relocate link_new Crate.link relocate_calls crate_of both_steps our_steps
+unfolding is_call is_blank is_wide_load decide meaning displacement calling referring visit append link signed u16_at u32_at decode decoded object_of judge first_refusal applied rewrite_all map_step image_functions image_lines admits room_for stray_line link_step u32 u64 i32 add_u64 mul_u64 add_u32 sub_u32 add_i32 sub_i32 insn_is_call relocate_map relocate_maps relocate_functions object_relocate_maps slot_of relocate_from relocate link_new Crate.link relocate_calls crate_of both_steps our_steps
 spare = refl

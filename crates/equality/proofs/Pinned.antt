@@ -18,8 +18,8 @@ use Rattle.rules.specs.Answers.{reply}
 use Rattle.rules.specs.Rows.{code_section, symbol_index, symbol_section, symbol_address, symbol_kind, function_section, function_slots, function_address, function_offset, function_func_info, function_line_info, relocation_section, relocation_symbol, relocation_offset, relocation_size, map_section, map_symbol, map_fd, map_has_data, record_slot, record_type, record_file, record_line, record_column, is_good, total, too_many, first_broken, broken_in, broken, Offered, tables_of, map_step_refusal, link_refusal}
 use Rattle.rules.specs.Entries.{Outputs, accepted_link, map_entry, link_entry}
 use Rattle.equality.specs.Crate as Crate
-use Rattle.equality.specs.Crate.{u32, u64, i32, add_u64, mul_u64, add_u32, sub_u32, add_i32, sub_i32, insn_is_call_lem, Result, ok, err, panics, too_deep, section_not_found, insert, new, Linker, lines_at, relocate_map, relocate_maps_lem, relocate_functions, object_relocate_maps, slot_of, relocate_from, relocate, link_new, relocate_calls}
-use Rattle.equality.specs.Info.{insn_bytes, func_info_bytes_lem, line_info_bytes_lem}
+use Rattle.equality.specs.Crate.{u32, u64, i32, add_u64, mul_u64, add_u32, sub_u32, add_i32, sub_i32, insn_is_call, Result, ok, err, panics, too_deep, section_not_found, insert, new, Linker, lines_at, relocate_map, relocate_maps, relocate_functions, object_relocate_maps, slot_of, relocate_from, relocate, link_new, relocate_calls}
+use Rattle.equality.specs.Info.{insn_bytes, crate_func_info_bytes, crate_line_info_bytes}
 use Rattle.equality.specs.Domain.{Hidden, crate_of}
 use Rattle.equality.specs.Demand2.{both_steps}
 use Rattle.equality.specs.Entries.{went, our_entries, SameBytes, SameCause}
@@ -38,7 +38,7 @@ crate i = both_steps (crate_of i.tables (hidden_of i)) i.tables.maps 1 0
 
 -- a load of a symbol that no map has
 pub no_map : crate (input (object (1 ∷ []) (symbol 9 5 0 other ∷ []) (function 1 2 0 ∷ []) (relocation 1 9 0 64 ∷ []) [] (load (pos 0) ∷ next ∷ [])) 0) ≡ err section_not_found
-unfolding signed u32 u64 i32 add_u64 mul_u64 add_u32 sub_u32 add_i32 sub_i32 insn_is_call_lem relocate_map relocate_maps_lem relocate_functions object_relocate_maps slot_of relocate_from relocate link_new Crate.link relocate_calls crate_of both_steps
+unfolding signed u32 u64 i32 add_u64 mul_u64 add_u32 sub_u32 add_i32 sub_i32 insn_is_call relocate_map relocate_maps relocate_functions object_relocate_maps slot_of relocate_from relocate link_new Crate.link relocate_calls crate_of both_steps
 no_map = refl
 
 -- the map step relocates each function, reached or not: two loads from one map
@@ -55,7 +55,7 @@ two_loads =
 
 pub each_mapped : slots (object_relocate_maps (crate_of two_loads (hidden_of (input two_loads 0))) two_loads.maps)
     ≡ (insn 0x18 1 1 (pos 7) ∷ next ∷ []) ∷ (insn 0x18 1 1 (pos 7) ∷ next ∷ []) ∷ []
-unfolding add_u64 insn_is_call_lem relocate_map relocate_maps_lem relocate_functions object_relocate_maps crate_of
+unfolding add_u64 insn_is_call relocate_map relocate_maps relocate_functions object_relocate_maps crate_of
 each_mapped = refl
 
 abbrev given : Result Linker → List Insn
@@ -69,7 +69,7 @@ pub called_twice : given (crate (input (object (1 ∷ 2 ∷ []) (symbol 7 2 16 t
     (function 1 2 0 ∷ record { home = 2; slots = 1; address = 16; offset = 0; functions = 0; lines = 0 } ∷ [])
     (relocation 1 7 0 32 ∷ relocation 1 7 8 32 ∷ []) [] (calls (negsuc 0) ∷ calls (negsuc 0) ∷ exits ∷ [])) 0))
     ≡ calls (pos 1) ∷ calls (pos 0) ∷ exits ∷ []
-unfolding signed u32 u64 i32 add_u64 mul_u64 add_u32 sub_u32 add_i32 sub_i32 insn_is_call_lem relocate_map relocate_maps_lem relocate_functions object_relocate_maps slot_of relocate_from relocate link_new Crate.link relocate_calls crate_of both_steps
+unfolding signed u32 u64 i32 add_u64 mul_u64 add_u32 sub_u32 add_i32 sub_i32 insn_is_call relocate_map relocate_maps relocate_functions object_relocate_maps slot_of relocate_from relocate link_new Crate.link relocate_calls crate_of both_steps
 called_twice = refl
 
 -- a root with a record of each kind that calls itself: `num_info`, 1 before, is counted anew
@@ -92,7 +92,7 @@ recorded = record {
 }
 
 pub counted_anew : counts (both_steps (crate_of recorded (record { values = λ home. []; maps = []; func_nums = λ row. 1; line_nums = λ row. 1 })) [] 1 0) ≡ 2 ∷ 2 ∷ []
-unfolding signed u32 u64 i32 add_u64 mul_u64 add_u32 sub_u32 add_i32 sub_i32 insn_is_call_lem relocate_map relocate_maps_lem relocate_functions object_relocate_maps slot_of relocate_from relocate link_new Crate.link relocate_calls crate_of both_steps
+unfolding signed u32 u64 i32 add_u64 mul_u64 add_u32 sub_u32 add_i32 sub_i32 insn_is_call relocate_map relocate_maps relocate_functions object_relocate_maps slot_of relocate_from relocate link_new Crate.link relocate_calls crate_of both_steps
 counted_anew = refl
 
 -- the entries, from bytes
@@ -125,7 +125,7 @@ abbrev missing : Offered
 missing = offered [] [] [] 1 (0x85 ∷ 0x10 ∷ 0 ∷ 0 ∷ 0 ∷ 0 ∷ 0 ∷ 0 ∷ [])
 
 pub missing_same : SameCause little lent (our_entries little missing 0 lent) (both_steps (crate_of (tables_of little missing) hidden) [] 1 0)
-unfolding our_entries map_entry link_entry tables_of map_step_refusal link_refusal too_many broken broken_in first_broken is_good total decoded decode encoded encode u16_at u32_at u64_at signed unsigned code_section symbol_index symbol_section symbol_address symbol_kind function_section function_slots function_address function_offset function_func_info function_line_info relocation_section relocation_symbol relocation_offset relocation_size map_section map_symbol map_fd map_has_data is_call is_blank is_wide_load decide meaning displacement calling referring visit append link object_of judge first_refusal applied rewrite_all map_step image_functions image_lines admits room_for stray_line link_step u32 u64 i32 add_u64 mul_u64 add_u32 sub_u32 add_i32 sub_i32 insn_is_call_lem relocate_map relocate_maps_lem relocate_functions object_relocate_maps slot_of relocate_from relocate link_new Crate.link relocate_calls crate_of both_steps
+unfolding our_entries map_entry link_entry tables_of map_step_refusal link_refusal too_many broken broken_in first_broken is_good total decoded decode encoded encode u16_at u32_at u64_at signed unsigned code_section symbol_index symbol_section symbol_address symbol_kind function_section function_slots function_address function_offset function_func_info function_line_info relocation_section relocation_symbol relocation_offset relocation_size map_section map_symbol map_fd map_has_data is_call is_blank is_wide_load decide meaning displacement calling referring visit append link object_of judge first_refusal applied rewrite_all map_step image_functions image_lines admits room_for stray_line link_step u32 u64 i32 add_u64 mul_u64 add_u32 sub_u32 add_i32 sub_i32 insn_is_call relocate_map relocate_maps relocate_functions object_relocate_maps slot_of relocate_from relocate link_new Crate.link relocate_calls crate_of both_steps
 missing_same = record { why = refusal 10 0 0; compared = inr (inr (inr refl)); refused = inr refl; is_err = refl }
 
 -- a load from a map without data, fd 7: the link gets what the map step left
@@ -156,13 +156,13 @@ wide = record { image = 17; func_info = 17; line_info = 33 }
 
 pub records_same : SameBytes little wide (our_entries little with_records 0 wide)
     (both_steps (crate_of (tables_of little with_records) (record { values = λ home. []; maps = []; func_nums = λ row. 1; line_nums = λ row. 1 })) [] 1 0)
-unfolding our_entries map_entry link_entry tables_of map_step_refusal link_refusal too_many broken broken_in first_broken is_good total decoded decode encoded encode u16_at u32_at u64_at signed unsigned code_section symbol_index symbol_section symbol_address symbol_kind function_section function_slots function_address function_offset function_func_info function_line_info relocation_section relocation_symbol relocation_offset relocation_size record_slot record_type record_file record_line record_column map_section map_symbol map_fd map_has_data is_call is_blank is_wide_load decide meaning displacement calling referring visit append link object_of judge first_refusal applied rewrite_all map_step image_functions image_lines admits room_for stray_line link_step u32 u64 i32 add_u64 mul_u64 add_u32 sub_u32 add_i32 sub_i32 insn_is_call_lem relocate_map relocate_maps_lem relocate_functions object_relocate_maps slot_of relocate_from relocate link_new Crate.link relocate_calls crate_of both_steps insn_bytes func_info_bytes_lem line_info_bytes_lem padded
+unfolding our_entries map_entry link_entry tables_of map_step_refusal link_refusal too_many broken broken_in first_broken is_good total decoded decode encoded encode u16_at u32_at u64_at signed unsigned code_section symbol_index symbol_section symbol_address symbol_kind function_section function_slots function_address function_offset function_func_info function_line_info relocation_section relocation_symbol relocation_offset relocation_size record_slot record_type record_file record_line record_column map_section map_symbol map_fd map_has_data is_call is_blank is_wide_load decide meaning displacement calling referring visit append link object_of judge first_refusal applied rewrite_all map_step image_functions image_lines admits room_for stray_line link_step u32 u64 i32 add_u64 mul_u64 add_u32 sub_u32 add_i32 sub_i32 insn_is_call relocate_map relocate_maps relocate_functions object_relocate_maps slot_of relocate_from relocate link_new Crate.link relocate_calls crate_of both_steps insn_bytes crate_func_info_bytes crate_line_info_bytes padded
 records_same = record {
   linker = record {
     instructions = calls (pos 0) ∷ calls (negsuc 0) ∷ [];
-    func_info_lem = record { slot = 0; kind = 3 } ∷ record { slot = 1; kind = 3 } ∷ [];
+    func_info = record { slot = 0; kind = 3 } ∷ record { slot = 1; kind = 3 } ∷ [];
     func_num_info = 2;
-    line_info_lem = line 0 ∷ line 1 ∷ [];
+    line_info = line 0 ∷ line 1 ∷ [];
     line_num_info = 2;
     linked_functions = insert 0 1 new;
   };
@@ -176,8 +176,8 @@ records_same = record {
   is_went = refl;
   places = refl;
   image = refl;
-  func_info_lem = refl;
-  line_info_lem = refl;
+  func_info = refl;
+  line_info = refl;
   func_num = refl;
   line_num = refl;
 }

@@ -11,8 +11,8 @@ use Rattle.rules.specs.Tables.{FunctionRecord, LineRecord}
 use Rattle.rules.specs.Answers.{Reply, reply}
 use Rattle.rules.specs.Readers.{Info, Read, is_whole, read_records}
 use Rattle.equality.specs.Crate.{Result, ok, err, panics, too_deep}
-use Rattle.equality.specs.Info.{SecInfo, chunks, read_at, read_func_info, read_line_info, parse_func, parse_line, func_info_bytes_lem, line_info_bytes_lem}
-use Rattle.equality.specs.Readers.{Records, func, line, table_of, RecordOf, crate_reads, crate_bytes, ReaderClause, record_size, whole_data, on_grid_lem, has_room, ReaderHolds}
+use Rattle.equality.specs.Info.{SecInfo, chunks, read_at, read_func_info, read_line_info, parse_func, parse_line, crate_func_info_bytes, crate_line_info_bytes}
+use Rattle.equality.specs.Readers.{Records, func, line, table_of, RecordOf, crate_reads, crate_bytes, ReaderClause, record_size, whole_data, on_the_grid, has_room, ReaderHolds}
 
 pub record ReaderInput : Type 0 where
   pub order : Order
@@ -79,8 +79,8 @@ inputs_for line whole_data =
     ∷ input little 16 0 one_line 0
     ∷ []
 -- a byte offset between two slots, of the first record and of the second
-inputs_for func on_grid_lem = input little 8 1 (func_data little 12 3) 8 ∷ input little 8 2 (one_func ++ func_data little 0xFFFF_FFFF 4) 16 ∷ []
-inputs_for line on_grid_lem = input little 16 1 (line_data little 12 3 4 5) 16 ∷ input little 16 2 (one_line ++ line_data little 0xFFFF_FFFF 6 7 8) 32 ∷ []
+inputs_for func on_the_grid = input little 8 1 (func_data little 12 3) 8 ∷ input little 8 2 (one_func ++ func_data little 0xFFFF_FFFF 4) 16 ∷ []
+inputs_for line on_the_grid = input little 16 1 (line_data little 12 3 4 5) 16 ∷ input little 16 2 (one_line ++ line_data little 0xFFFF_FFFF 6 7 8) 32 ∷ []
 -- an output that lacks a byte, and none
 inputs_for func has_room = input little 8 1 one_func 7 ∷ input little 8 2 two_funcs 0 ∷ []
 inputs_for line has_room = input little 16 1 one_line 15 ∷ input little 16 2 two_lines 0 ∷ []
@@ -109,11 +109,11 @@ both t i =
     ∷ seen_crate (crate_bytes t i.order) (crate_reads t i.order i.info)
     ∷ []
 
-abbrev func_of_lem : ℕ → ℕ → FunctionRecord
-func_of_lem slot kind = record { slot = slot; kind = kind }
+abbrev func_record_of : ℕ → ℕ → FunctionRecord
+func_record_of slot kind = record { slot = slot; kind = kind }
 
-abbrev line_of_lem : ℕ → ℕ → ℕ → ℕ → LineRecord
-line_of_lem slot file number column = record { slot = slot; file = file; line = number; column = column }
+abbrev line_record_of : ℕ → ℕ → ℕ → ℕ → LineRecord
+line_record_of slot file number column = record { slot = slot; file = file; line = number; column = column }
 
 -- numbers below 256 as four bytes each, little and big
 abbrev small : List ℕ → List ℕ
@@ -135,65 +135,65 @@ refused number room crate = wrote (reply number 0 0 0) (replicate room 0) ∷ cr
 abbrev answers_inside : (t : Records) → List (List (Seen (RecordOf t)))
 answers_inside func =
     equally 0 [] [] 0
-    ∷ equally 2 (func_of_lem 2 3 ∷ func_of_lem 0x1FFF_FFFF 0x0102_0304 ∷ []) (small (2 ∷ 3 ∷ []) ++ (255 ∷ 255 ∷ 255 ∷ 31 ∷ 4 ∷ 3 ∷ 2 ∷ 1 ∷ [])) 0
-    ∷ equally 2 (func_of_lem 2 3 ∷ func_of_lem 1 4 ∷ []) (small (2 ∷ 3 ∷ 1 ∷ 4 ∷ [])) 3
-    ∷ equally 2 (func_of_lem 2 3 ∷ func_of_lem 1 4 ∷ []) (small_big (2 ∷ 3 ∷ 1 ∷ 4 ∷ [])) 0
+    ∷ equally 2 (func_record_of 2 3 ∷ func_record_of 0x1FFF_FFFF 0x0102_0304 ∷ []) (small (2 ∷ 3 ∷ []) ++ (255 ∷ 255 ∷ 255 ∷ 31 ∷ 4 ∷ 3 ∷ 2 ∷ 1 ∷ [])) 0
+    ∷ equally 2 (func_record_of 2 3 ∷ func_record_of 1 4 ∷ []) (small (2 ∷ 3 ∷ 1 ∷ 4 ∷ [])) 3
+    ∷ equally 2 (func_record_of 2 3 ∷ func_record_of 1 4 ∷ []) (small_big (2 ∷ 3 ∷ 1 ∷ 4 ∷ [])) 0
     ∷ []
 answers_inside line =
     equally 0 [] [] 0
-    ∷ equally 2 (line_of_lem 2 3 4 5 ∷ line_of_lem 0x1FFF_FFFF 0x0102_0304 6 0xFFFF_FFFF ∷ [])
+    ∷ equally 2 (line_record_of 2 3 4 5 ∷ line_record_of 0x1FFF_FFFF 0x0102_0304 6 0xFFFF_FFFF ∷ [])
     (small (2 ∷ 3 ∷ 4 ∷ 5 ∷ []) ++ (255 ∷ 255 ∷ 255 ∷ 31 ∷ 4 ∷ 3 ∷ 2 ∷ 1 ∷ 6 ∷ 0 ∷ 0 ∷ 0 ∷ 255 ∷ 255 ∷ 255 ∷ 255 ∷ [])) 0
-    ∷ equally 2 (line_of_lem 2 3 4 5 ∷ line_of_lem 1 6 7 8 ∷ []) (small (2 ∷ 3 ∷ 4 ∷ 5 ∷ 1 ∷ 6 ∷ 7 ∷ 8 ∷ [])) 3
-    ∷ equally 2 (line_of_lem 2 3 4 5 ∷ line_of_lem 1 6 7 8 ∷ []) (small_big (2 ∷ 3 ∷ 4 ∷ 5 ∷ 1 ∷ 6 ∷ 7 ∷ 8 ∷ [])) 0
+    ∷ equally 2 (line_record_of 2 3 4 5 ∷ line_record_of 1 6 7 8 ∷ []) (small (2 ∷ 3 ∷ 4 ∷ 5 ∷ 1 ∷ 6 ∷ 7 ∷ 8 ∷ [])) 3
+    ∷ equally 2 (line_record_of 2 3 4 5 ∷ line_record_of 1 6 7 8 ∷ []) (small_big (2 ∷ 3 ∷ 4 ∷ 5 ∷ 1 ∷ 6 ∷ 7 ∷ 8 ∷ [])) 0
     ∷ []
 
 abbrev answers_to : (t : Records) → ReaderClause → List (List (Seen (RecordOf t)))
 answers_to func record_size = refused 14 0 (reads 0 [] []) ∷ refused 14 0 panicked ∷ refused 14 16 panicked ∷ refused 14 16 panicked ∷ []
 answers_to line record_size = refused 14 0 (reads 0 [] []) ∷ refused 14 0 panicked ∷ refused 14 32 panicked ∷ refused 14 32 panicked ∷ []
 answers_to func whole_data =
-    refused 14 16 (reads 2 (func_of_lem 2 3 ∷ func_of_lem 1 4 ∷ []) (small (2 ∷ 3 ∷ 1 ∷ 4 ∷ [])))
+    refused 14 16 (reads 2 (func_record_of 2 3 ∷ func_record_of 1 4 ∷ []) (small (2 ∷ 3 ∷ 1 ∷ 4 ∷ [])))
     ∷ refused 14 16 panicked
-    ∷ refused 14 40 (reads 5 (func_of_lem 2 3 ∷ []) (small (2 ∷ 3 ∷ [])))
-    ∷ refused 14 0 (reads 0 (func_of_lem 2 3 ∷ []) (small (2 ∷ 3 ∷ [])))
+    ∷ refused 14 40 (reads 5 (func_record_of 2 3 ∷ []) (small (2 ∷ 3 ∷ [])))
+    ∷ refused 14 0 (reads 0 (func_record_of 2 3 ∷ []) (small (2 ∷ 3 ∷ [])))
     ∷ []
 answers_to line whole_data =
-    refused 14 32 (reads 2 (line_of_lem 2 3 4 5 ∷ line_of_lem 1 6 7 8 ∷ []) (small (2 ∷ 3 ∷ 4 ∷ 5 ∷ 1 ∷ 6 ∷ 7 ∷ 8 ∷ [])))
+    refused 14 32 (reads 2 (line_record_of 2 3 4 5 ∷ line_record_of 1 6 7 8 ∷ []) (small (2 ∷ 3 ∷ 4 ∷ 5 ∷ 1 ∷ 6 ∷ 7 ∷ 8 ∷ [])))
     ∷ refused 14 32 panicked
-    ∷ refused 14 80 (reads 5 (line_of_lem 2 3 4 5 ∷ []) (small (2 ∷ 3 ∷ 4 ∷ 5 ∷ [])))
-    ∷ refused 14 0 (reads 0 (line_of_lem 2 3 4 5 ∷ []) (small (2 ∷ 3 ∷ 4 ∷ 5 ∷ [])))
+    ∷ refused 14 80 (reads 5 (line_record_of 2 3 4 5 ∷ []) (small (2 ∷ 3 ∷ 4 ∷ 5 ∷ [])))
+    ∷ refused 14 0 (reads 0 (line_record_of 2 3 4 5 ∷ []) (small (2 ∷ 3 ∷ 4 ∷ 5 ∷ [])))
     ∷ []
-answers_to func on_grid_lem =
-    refused 14 8 (reads 1 (func_of_lem 1 3 ∷ []) (small (1 ∷ 3 ∷ [])))
-    ∷ refused 14 16 (reads 2 (func_of_lem 2 3 ∷ func_of_lem 0x1FFF_FFFF 4 ∷ []) (small (2 ∷ 3 ∷ []) ++ (255 ∷ 255 ∷ 255 ∷ 31 ∷ small (4 ∷ []))))
+answers_to func on_the_grid =
+    refused 14 8 (reads 1 (func_record_of 1 3 ∷ []) (small (1 ∷ 3 ∷ [])))
+    ∷ refused 14 16 (reads 2 (func_record_of 2 3 ∷ func_record_of 0x1FFF_FFFF 4 ∷ []) (small (2 ∷ 3 ∷ []) ++ (255 ∷ 255 ∷ 255 ∷ 31 ∷ small (4 ∷ []))))
     ∷ []
-answers_to line on_grid_lem =
-    refused 14 16 (reads 1 (line_of_lem 1 3 4 5 ∷ []) (small (1 ∷ 3 ∷ 4 ∷ 5 ∷ [])))
-    ∷ refused 14 32 (reads 2 (line_of_lem 2 3 4 5 ∷ line_of_lem 0x1FFF_FFFF 6 7 8 ∷ []) (small (2 ∷ 3 ∷ 4 ∷ 5 ∷ []) ++ (255 ∷ 255 ∷ 255 ∷ 31 ∷ small (6 ∷ 7 ∷ 8 ∷ []))))
+answers_to line on_the_grid =
+    refused 14 16 (reads 1 (line_record_of 1 3 4 5 ∷ []) (small (1 ∷ 3 ∷ 4 ∷ 5 ∷ [])))
+    ∷ refused 14 32 (reads 2 (line_record_of 2 3 4 5 ∷ line_record_of 0x1FFF_FFFF 6 7 8 ∷ []) (small (2 ∷ 3 ∷ 4 ∷ 5 ∷ []) ++ (255 ∷ 255 ∷ 255 ∷ 31 ∷ small (6 ∷ 7 ∷ 8 ∷ []))))
     ∷ []
 answers_to func has_room =
-    refused 11 7 (reads 1 (func_of_lem 2 3 ∷ []) (small (2 ∷ 3 ∷ [])))
-    ∷ refused 11 0 (reads 2 (func_of_lem 2 3 ∷ func_of_lem 0x1FFF_FFFF 0x0102_0304 ∷ []) (small (2 ∷ 3 ∷ []) ++ (255 ∷ 255 ∷ 255 ∷ 31 ∷ 4 ∷ 3 ∷ 2 ∷ 1 ∷ [])))
+    refused 11 7 (reads 1 (func_record_of 2 3 ∷ []) (small (2 ∷ 3 ∷ [])))
+    ∷ refused 11 0 (reads 2 (func_record_of 2 3 ∷ func_record_of 0x1FFF_FFFF 0x0102_0304 ∷ []) (small (2 ∷ 3 ∷ []) ++ (255 ∷ 255 ∷ 255 ∷ 31 ∷ 4 ∷ 3 ∷ 2 ∷ 1 ∷ [])))
     ∷ []
 answers_to line has_room =
-    refused 11 15 (reads 1 (line_of_lem 2 3 4 5 ∷ []) (small (2 ∷ 3 ∷ 4 ∷ 5 ∷ [])))
-    ∷ refused 11 0 (reads 2 (line_of_lem 2 3 4 5 ∷ line_of_lem 0x1FFF_FFFF 0x0102_0304 6 0xFFFF_FFFF ∷ [])
+    refused 11 15 (reads 1 (line_record_of 2 3 4 5 ∷ []) (small (2 ∷ 3 ∷ 4 ∷ 5 ∷ [])))
+    ∷ refused 11 0 (reads 2 (line_record_of 2 3 4 5 ∷ line_record_of 0x1FFF_FFFF 0x0102_0304 6 0xFFFF_FFFF ∷ [])
     (small (2 ∷ 3 ∷ 4 ∷ 5 ∷ []) ++ (255 ∷ 255 ∷ 255 ∷ 31 ∷ 4 ∷ 3 ∷ 2 ∷ 1 ∷ 6 ∷ 0 ∷ 0 ∷ 0 ∷ 255 ∷ 255 ∷ 255 ∷ 255 ∷ [])))
     ∷ []
 
 pub answered_inside : (t : Records) → map (both t) (inside t) ≡ answers_inside t
-unfolding u32_at padded is_whole read_records chunks read_at read_func_info read_line_info parse_func parse_line func_info_bytes_lem line_info_bytes_lem
+unfolding u32_at padded is_whole read_records chunks read_at read_func_info read_line_info parse_func parse_line crate_func_info_bytes crate_line_info_bytes
 answered_inside func = refl
 answered_inside line = refl
 
 pub answered : (t : Records) (x : ReaderClause) → map (both t) (inputs_for t x) ≡ answers_to t x
-unfolding u32_at padded is_whole read_records chunks read_at read_func_info read_line_info parse_func parse_line func_info_bytes_lem line_info_bytes_lem
+unfolding u32_at padded is_whole read_records chunks read_at read_func_info read_line_info parse_func parse_line crate_func_info_bytes crate_line_info_bytes
 answered func record_size = refl
 answered func whole_data = refl
-answered func on_grid_lem = refl
+answered func on_the_grid = refl
 answered func has_room = refl
 answered line record_size = refl
 answered line whole_data = refl
-answered line on_grid_lem = refl
+answered line on_the_grid = refl
 answered line has_room = refl
 
 -- ---- each clause, applied to an input outside it, is absurd by computation
@@ -206,8 +206,8 @@ excluded_size = (λ h. let e : 8 ≤ 7 = h in omega arith, λ h. let e : 16 ≤ 
 pub excluded_data : Outside whole_data func (input little 8 5 one_func 40) × Outside whole_data line (input little 16 5 one_line 80)
 excluded_data = (λ h. let e : ◌≡◌ {A = ℕ} 40 8 = h in omega arith, λ h. let e : ◌≡◌ {A = ℕ} 80 16 = h in omega arith)
 
-pub excluded_offset : Outside on_grid_lem func (input little 8 1 (func_data little 12 3) 8)
-    × Outside on_grid_lem line (input little 16 1 (line_data little 12 3 4 5) 16)
+pub excluded_offset : Outside on_the_grid func (input little 8 1 (func_data little 12 3) 8)
+    × Outside on_the_grid line (input little 16 1 (line_data little 12 3 4 5) 16)
 unfolding u32_at
 excluded_offset = (λ h. let e : ◌≡◌ {A = ℕ} 4 0 = h 0 (omega arith) in omega arith, λ h. let e : ◌≡◌ {A = ℕ} 4 0 = h 0 (omega arith) in omega arith)
 

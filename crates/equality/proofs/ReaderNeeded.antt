@@ -15,7 +15,7 @@ use Rattle.rules.specs.Answers.{reply}
 use Rattle.rules.specs.Rows.{row_size}
 use Rattle.rules.specs.Readers.{Info, on_grid, is_whole, rows_of_records, Read, read, read_records}
 use Rattle.rules.proofs.Passed.{and_left, and_right}
-use Rattle.equality.specs.Readers.{Records, func, line, table_of, crate_reads, least_size, ReaderClause, record_size, whole_data, on_grid_lem, has_room, ReaderHolds, ReaderDomain, ReaderExcept, SameRecords, EqualRecords}
+use Rattle.equality.specs.Readers.{Records, func, line, table_of, crate_reads, least_size, ReaderClause, record_size, whole_data, on_the_grid, has_room, ReaderHolds, ReaderDomain, ReaderExcept, SameRecords, EqualRecords}
 use Rattle.equality.proofs.Checks.{allb, all_member, all_at, or_right}
 use Rattle.equality.proofs.Readers.{grid_passes}
 use Rattle.equality.proofs.ReaderInputs.{ReaderInput, inside, inputs_for}
@@ -25,16 +25,16 @@ use Rattle.equality.proofs.ReaderInputs.{ReaderInput, inside, inputs_for}
 abbrev test : ReaderClause → Records → ReaderInput → Bool
 test record_size t i = leb (least_size t) i.info.size
 test whole_data t i = eqb (i.info.count * i.info.size) (length i.info.bytes)
-test on_grid_lem t i = on_grid i.order i.info 0 i.info.count
+test on_the_grid t i = on_grid i.order i.info 0 i.info.count
 test has_room t i = leb (i.info.count * row_size (table_of t)) i.room
 
 abbrev clauses : List ReaderClause
-clauses = record_size ∷ whole_data ∷ on_grid_lem ∷ has_room ∷ []
+clauses = record_size ∷ whole_data ∷ on_the_grid ∷ has_room ∷ []
 
 abbrev number_of : ReaderClause → ℕ
 number_of record_size = 0
 number_of whole_data = 1
-number_of on_grid_lem = 2
+number_of on_the_grid = 2
 number_of has_room = 3
 
 -- every clause but one
@@ -52,11 +52,11 @@ all_stand : (t : Records) (x : ReaderClause) → allb (stands x t) (inputs_for t
 unfolding u32_at padded is_whole read_records
 all_stand func record_size = refl
 all_stand func whole_data = refl
-all_stand func on_grid_lem = refl
+all_stand func on_the_grid = refl
 all_stand func has_room = refl
 all_stand line record_size = refl
 all_stand line whole_data = refl
-all_stand line on_grid_lem = refl
+all_stand line on_the_grid = refl
 all_stand line has_room = refl
 
 -- inside every clause
@@ -84,13 +84,13 @@ Stands c t i = ReaderHolds c t i.order i.info i.room
 test_holds : (c : ReaderClause) (t : Records) (i : ReaderInput) → test c t i ≡ true → Stands c t i
 test_holds record_size t i e = leb-true (least_size t) i.info.size e
 test_holds whole_data t i e = eqb-true (i.info.count * i.info.size) (length i.info.bytes) e
-test_holds on_grid_lem t i e = λ k l. rw zero-add at (grid_at i.order i.info 0 i.info.count k e l)
+test_holds on_the_grid t i e = λ k l. rw zero-add at (grid_at i.order i.info 0 i.info.count k e l)
 test_holds has_room t i e = leb-true (i.info.count * row_size (table_of t)) i.room e
 
 holds_test : (c : ReaderClause) (t : Records) (i : ReaderInput) → Stands c t i → test c t i ≡ true
 holds_test record_size t i h = le-leb (least_size t) i.info.size h
 holds_test whole_data t i h = eq-eqb (i.info.count * i.info.size) (length i.info.bytes) h
-holds_test on_grid_lem t i h = grid_passes i.order i.info 0 i.info.count (λ j a b. h j (omega arith))
+holds_test on_the_grid t i h = grid_passes i.order i.info 0 i.info.count (λ j a b. h j (omega arith))
 holds_test has_room t i h = le-leb (i.info.count * row_size (table_of t)) i.room h
 
 -- ---- ours accepts inside the domain, and nowhere else
@@ -123,7 +123,7 @@ module _ (t : Records) (order : Order) (info : Info) (room : ℕ) where
   tests w r record_size = sym (sized t) ∙ and_left (leb (row_size (table_of t)) info.size) _ w
   tests w r whole_data =
       and_left (eqb (info.count * info.size) (length info.bytes)) _ (and_right (leb (row_size (table_of t)) info.size) _ w)
-  tests w r on_grid_lem =
+  tests w r on_the_grid =
       and_right (eqb (info.count * info.size) (length info.bytes)) _ (and_right (leb (row_size (table_of t)) info.size) _ w)
   tests w r has_room = r
 
@@ -138,19 +138,19 @@ module _ (t : Records) (order : Order) (info : Info) (room : ℕ) where
 abbrev clause_at : ℕ → ReaderClause
 clause_at zero = record_size
 clause_at (suc zero) = whole_data
-clause_at (suc (suc zero)) = on_grid_lem
+clause_at (suc (suc zero)) = on_the_grid
 clause_at (suc (suc (suc n))) = has_room
 
 numbered : (c : ReaderClause) → clause_at (number_of c) ≡ c
 numbered record_size = refl
 numbered whole_data = refl
-numbered on_grid_lem = refl
+numbered on_the_grid = refl
 numbered has_room = refl
 
 member : (c : ReaderClause) → Memᴰ c clauses
 member record_size = Memᴰ.head refl
 member whole_data = Memᴰ.tail (Memᴰ.head refl)
-member on_grid_lem = Memᴰ.tail (Memᴰ.tail (Memᴰ.head refl))
+member on_the_grid = Memᴰ.tail (Memᴰ.tail (Memᴰ.head refl))
 member has_room = Memᴰ.tail (Memᴰ.tail (Memᴰ.tail (Memᴰ.head refl)))
 
 not_both : (b : Bool) → not b ≡ true → b ≡ true → ⊥
@@ -227,9 +227,9 @@ by_input t x i among theorem =
 pub none_dropped_readers : (t : Records) (x : ReaderClause) → ReadersWithout x t → ⊥
 none_dropped_readers func record_size = by_input func record_size _ (Memᴰ.head refl)
 none_dropped_readers func whole_data = by_input func whole_data _ (Memᴰ.head refl)
-none_dropped_readers func on_grid_lem = by_input func on_grid_lem _ (Memᴰ.head refl)
+none_dropped_readers func on_the_grid = by_input func on_the_grid _ (Memᴰ.head refl)
 none_dropped_readers func has_room = by_input func has_room _ (Memᴰ.head refl)
 none_dropped_readers line record_size = by_input line record_size _ (Memᴰ.head refl)
 none_dropped_readers line whole_data = by_input line whole_data _ (Memᴰ.head refl)
-none_dropped_readers line on_grid_lem = by_input line on_grid_lem _ (Memᴰ.head refl)
+none_dropped_readers line on_the_grid = by_input line on_the_grid _ (Memᴰ.head refl)
 none_dropped_readers line has_room = by_input line has_room _ (Memᴰ.head refl)

@@ -8,22 +8,22 @@ use Prim.Native.Nat.{ℕ}
 use Rattle.rules.specs.Bytes.{Order, little, big, u32_at}
 use Rattle.rules.specs.Tables.{FunctionRecord, LineRecord}
 use Rattle.equality.specs.Crate.{Result, ok, err, panics, too_deep}
-use Rattle.equality.specs.Info.{SecInfo, chunks, read_at, read_func_info, read_line_info, parse_func, parse_line, func_info_bytes_lem, line_info_bytes_lem}
+use Rattle.equality.specs.Info.{SecInfo, chunks, read_at, read_func_info, read_line_info, parse_func, parse_line, crate_func_info_bytes, crate_line_info_bytes}
 
 -- what the crate answers: `num_info`, the records, and their encoded bytes; or a panic
 data Seen : Type 0 where
-  func_info_lem : ℕ → List FunctionRecord → List ℕ → Seen
-  line_info_lem : ℕ → List LineRecord → List ℕ → Seen
+  func_info : ℕ → List FunctionRecord → List ℕ → Seen
+  line_info : ℕ → List LineRecord → List ℕ → Seen
   panicked never : Seen
 
 abbrev seen_func : Result (SecInfo FunctionRecord) → Seen
-seen_func (ok s) = func_info_lem s.num_info s.info (func_info_bytes_lem little s.info)
+seen_func (ok s) = func_info s.num_info s.info (crate_func_info_bytes little s.info)
 seen_func (err e) = never
 seen_func panics = panicked
 seen_func too_deep = never
 
 abbrev seen_line : Result (SecInfo LineRecord) → Seen
-seen_line (ok s) = line_info_lem s.num_info s.info (line_info_bytes_lem little s.info)
+seen_line (ok s) = line_info s.num_info s.info (crate_line_info_bytes little s.info)
 seen_line (err e) = never
 seen_line panics = panicked
 seen_line too_deep = never
@@ -64,22 +64,22 @@ vectors_1 : (
     ∷ funcs 1 8 [] little
     ∷ [])
     ≡ (
-    func_info_lem 1 (func 350296745 1463746839 ∷ []) (169 ∷ 26 ∷ 225 ∷ 20 ∷ 23 ∷ 1 ∷ 63 ∷ 87 ∷ [])
-    ∷ func_info_lem 1 (func 517434301 3789998388 ∷ []) (189 ∷ 107 ∷ 215 ∷ 30 ∷ 52 ∷ 201 ∷ 230 ∷ 225 ∷ [])
-    ∷ func_info_lem 2 (func 99351848 3822161170 ∷ func 499249209 1779880804 ∷ []) (40 ∷ 253 ∷ 235 ∷ 5 ∷ 18 ∷ 141 ∷ 209 ∷ 227 ∷ 57 ∷ 240 ∷ 193 ∷ 29
+    func_info 1 (func 350296745 1463746839 ∷ []) (169 ∷ 26 ∷ 225 ∷ 20 ∷ 23 ∷ 1 ∷ 63 ∷ 87 ∷ [])
+    ∷ func_info 1 (func 517434301 3789998388 ∷ []) (189 ∷ 107 ∷ 215 ∷ 30 ∷ 52 ∷ 201 ∷ 230 ∷ 225 ∷ [])
+    ∷ func_info 2 (func 99351848 3822161170 ∷ func 499249209 1779880804 ∷ []) (40 ∷ 253 ∷ 235 ∷ 5 ∷ 18 ∷ 141 ∷ 209 ∷ 227 ∷ 57 ∷ 240 ∷ 193 ∷ 29
     ∷ 100 ∷ 211 ∷ 22 ∷ 106 ∷ [])
-    ∷ func_info_lem 2 (func 529713900 1051868891 ∷ func 205084546 1704238478 ∷ []) (236 ∷ 202 ∷ 146 ∷ 31 ∷ 219 ∷ 62 ∷ 178 ∷ 62 ∷ 130 ∷ 87 ∷ 57 ∷ 12
+    ∷ func_info 2 (func 529713900 1051868891 ∷ func 205084546 1704238478 ∷ []) (236 ∷ 202 ∷ 146 ∷ 31 ∷ 219 ∷ 62 ∷ 178 ∷ 62 ∷ 130 ∷ 87 ∷ 57 ∷ 12
     ∷ 142 ∷ 157 ∷ 148 ∷ 101 ∷ [])
-    ∷ func_info_lem 2 (func 293850198 2949932283 ∷ func 220620808 1761127458 ∷ []) (86 ∷ 204 ∷ 131 ∷ 17 ∷ 251 ∷ 100 ∷ 212 ∷ 175 ∷ 8 ∷ 104 ∷ 38 ∷ 13
+    ∷ func_info 2 (func 293850198 2949932283 ∷ func 220620808 1761127458 ∷ []) (86 ∷ 204 ∷ 131 ∷ 17 ∷ 251 ∷ 100 ∷ 212 ∷ 175 ∷ 8 ∷ 104 ∷ 38 ∷ 13
     ∷ 34 ∷ 172 ∷ 248 ∷ 104 ∷ [])
-    ∷ func_info_lem 1 (func 176706133 2368236627 ∷ []) (85 ∷ 82 ∷ 136 ∷ 10 ∷ 83 ∷ 108 ∷ 40 ∷ 141 ∷ [])
-    ∷ func_info_lem 2 (func 262239138 3182665941 ∷ func 306510064 3475014418 ∷ []) (162 ∷ 115 ∷ 161 ∷ 15 ∷ 213 ∷ 160 ∷ 179 ∷ 189 ∷ 240 ∷ 248 ∷ 68
+    ∷ func_info 1 (func 176706133 2368236627 ∷ []) (85 ∷ 82 ∷ 136 ∷ 10 ∷ 83 ∷ 108 ∷ 40 ∷ 141 ∷ [])
+    ∷ func_info 2 (func 262239138 3182665941 ∷ func 306510064 3475014418 ∷ []) (162 ∷ 115 ∷ 161 ∷ 15 ∷ 213 ∷ 160 ∷ 179 ∷ 189 ∷ 240 ∷ 248 ∷ 68
     ∷ 18 ∷ 18 ∷ 131 ∷ 32 ∷ 207 ∷ [])
-    ∷ func_info_lem 1 (func 409344804 2071158393 ∷ []) (36 ∷ 27 ∷ 102 ∷ 24 ∷ 121 ∷ 94 ∷ 115 ∷ 123 ∷ [])
-    ∷ func_info_lem 2 (func 514923744 1402030591 ∷ []) (224 ∷ 28 ∷ 177 ∷ 30 ∷ 255 ∷ 73 ∷ 145 ∷ 83 ∷ [])
-    ∷ func_info_lem 1 [] []
+    ∷ func_info 1 (func 409344804 2071158393 ∷ []) (36 ∷ 27 ∷ 102 ∷ 24 ∷ 121 ∷ 94 ∷ 115 ∷ 123 ∷ [])
+    ∷ func_info 2 (func 514923744 1402030591 ∷ []) (224 ∷ 28 ∷ 177 ∷ 30 ∷ 255 ∷ 73 ∷ 145 ∷ 83 ∷ [])
+    ∷ func_info 1 [] []
     ∷ [])
-unfolding u32_at chunks read_at read_func_info read_line_info parse_func parse_line func_info_bytes_lem line_info_bytes_lem
+unfolding u32_at chunks read_at read_func_info read_line_info parse_func parse_line crate_func_info_bytes crate_line_info_bytes
 vectors_1 = refl
 
 vectors_2 : (
@@ -105,20 +105,20 @@ vectors_2 : (
     ∷ funcs 2 9 (64 ∷ 184 ∷ 63 ∷ 50 ∷ 82 ∷ 83 ∷ 75 ∷ 92 ∷ 40 ∷ 104 ∷ 224 ∷ 27 ∷ 9 ∷ 9 ∷ 217 ∷ 8 ∷ 73 ∷ 38 ∷ []) little
     ∷ [])
     ≡ (
-    func_info_lem 0 (func 306145205 2450105330 ∷ []) (181 ∷ 103 ∷ 63 ∷ 18 ∷ 242 ∷ 163 ∷ 9 ∷ 146 ∷ [])
+    func_info 0 (func 306145205 2450105330 ∷ []) (181 ∷ 103 ∷ 63 ∷ 18 ∷ 242 ∷ 163 ∷ 9 ∷ 146 ∷ [])
     ∷ panicked
-    ∷ func_info_lem 0 [] []
+    ∷ func_info 0 [] []
     ∷ panicked
-    ∷ func_info_lem 0 [] []
-    ∷ func_info_lem 0 [] []
-    ∷ func_info_lem 1 (func 190941355 83682344 ∷ []) (171 ∷ 136 ∷ 97 ∷ 11 ∷ 40 ∷ 228 ∷ 252 ∷ 4 ∷ [])
-    ∷ func_info_lem 1 (func 181723725 2747110099 ∷ []) (77 ∷ 226 ∷ 212 ∷ 10 ∷ 211 ∷ 146 ∷ 189 ∷ 163 ∷ [])
-    ∷ func_info_lem 2 (func 25455270 1976494456 ∷ func 446918636 1177205949 ∷ []) (166 ∷ 106 ∷ 132 ∷ 1 ∷ 120 ∷ 233 ∷ 206 ∷ 117 ∷ 236 ∷ 111 ∷ 163
+    ∷ func_info 0 [] []
+    ∷ func_info 0 [] []
+    ∷ func_info 1 (func 190941355 83682344 ∷ []) (171 ∷ 136 ∷ 97 ∷ 11 ∷ 40 ∷ 228 ∷ 252 ∷ 4 ∷ [])
+    ∷ func_info 1 (func 181723725 2747110099 ∷ []) (77 ∷ 226 ∷ 212 ∷ 10 ∷ 211 ∷ 146 ∷ 189 ∷ 163 ∷ [])
+    ∷ func_info 2 (func 25455270 1976494456 ∷ func 446918636 1177205949 ∷ []) (166 ∷ 106 ∷ 132 ∷ 1 ∷ 120 ∷ 233 ∷ 206 ∷ 117 ∷ 236 ∷ 111 ∷ 163
     ∷ 26 ∷ 189 ∷ 188 ∷ 42 ∷ 70 ∷ [])
-    ∷ func_info_lem 2 (func 105379592 1548440402 ∷ func 19102733 1225316617 ∷ []) (8 ∷ 247 ∷ 71 ∷ 6 ∷ 82 ∷ 83 ∷ 75 ∷ 92 ∷ 13 ∷ 124 ∷ 35 ∷ 1 ∷ 9
+    ∷ func_info 2 (func 105379592 1548440402 ∷ func 19102733 1225316617 ∷ []) (8 ∷ 247 ∷ 71 ∷ 6 ∷ 82 ∷ 83 ∷ 75 ∷ 92 ∷ 13 ∷ 124 ∷ 35 ∷ 1 ∷ 9
     ∷ 217 ∷ 8 ∷ 73 ∷ [])
     ∷ [])
-unfolding u32_at chunks read_at read_func_info read_line_info parse_func parse_line func_info_bytes_lem line_info_bytes_lem
+unfolding u32_at chunks read_at read_func_info read_line_info parse_func parse_line crate_func_info_bytes crate_line_info_bytes
 vectors_2 = refl
 
 vectors_3 : (
@@ -144,20 +144,20 @@ vectors_3 : (
     ∷ funcs 1 15 (64 ∷ 35 ∷ 144 ∷ 154 ∷ 138 ∷ 65 ∷ 106 ∷ 105 ∷ []) little
     ∷ [])
     ≡ (
-    func_info_lem 2 (func 146454368 4281742133 ∷ func 41362939 2127970091 ∷ []) (96 ∷ 183 ∷ 186 ∷ 8 ∷ 53 ∷ 51 ∷ 54 ∷ 255 ∷ 251 ∷ 37 ∷ 119 ∷ 2
+    func_info 2 (func 146454368 4281742133 ∷ func 41362939 2127970091 ∷ []) (96 ∷ 183 ∷ 186 ∷ 8 ∷ 53 ∷ 51 ∷ 54 ∷ 255 ∷ 251 ∷ 37 ∷ 119 ∷ 2
     ∷ 43 ∷ 63 ∷ 214 ∷ 126 ∷ [])
-    ∷ func_info_lem 1 (func 495005010 1879439281 ∷ []) (82 ∷ 45 ∷ 129 ∷ 29 ∷ 177 ∷ 247 ∷ 5 ∷ 112 ∷ [])
+    ∷ func_info 1 (func 495005010 1879439281 ∷ []) (82 ∷ 45 ∷ 129 ∷ 29 ∷ 177 ∷ 247 ∷ 5 ∷ 112 ∷ [])
     ∷ panicked
     ∷ panicked
     ∷ panicked
     ∷ panicked
-    ∷ func_info_lem 2 (func 489348688 653296513 ∷ func 308154845 2824500246 ∷ []) (80 ∷ 222 ∷ 42 ∷ 29 ∷ 129 ∷ 131 ∷ 240 ∷ 38 ∷ 221 ∷ 17 ∷ 94 ∷ 18
+    ∷ func_info 2 (func 489348688 653296513 ∷ func 308154845 2824500246 ∷ []) (80 ∷ 222 ∷ 42 ∷ 29 ∷ 129 ∷ 131 ∷ 240 ∷ 38 ∷ 221 ∷ 17 ∷ 94 ∷ 18
     ∷ 22 ∷ 116 ∷ 90 ∷ 168 ∷ [])
     ∷ panicked
     ∷ panicked
-    ∷ func_info_lem 1 (func 324142184 1768571274 ∷ []) (104 ∷ 4 ∷ 82 ∷ 19 ∷ 138 ∷ 65 ∷ 106 ∷ 105 ∷ [])
+    ∷ func_info 1 (func 324142184 1768571274 ∷ []) (104 ∷ 4 ∷ 82 ∷ 19 ∷ 138 ∷ 65 ∷ 106 ∷ 105 ∷ [])
     ∷ [])
-unfolding u32_at chunks read_at read_func_info read_line_info parse_func parse_line func_info_bytes_lem line_info_bytes_lem
+unfolding u32_at chunks read_at read_func_info read_line_info parse_func parse_line crate_func_info_bytes crate_line_info_bytes
 vectors_3 = refl
 
 vectors_4 : (
@@ -187,31 +187,31 @@ vectors_4 : (
     ∷ lines 1 16 [] little
     ∷ [])
     ≡ (
-    line_info_lem 1 (line 315556557 2911774052 60524014 3318948344 ∷ []) (205 ∷ 2 ∷ 207 ∷ 18 ∷ 100 ∷ 37 ∷ 142 ∷ 173 ∷ 238 ∷ 133 ∷ 155 ∷ 3 ∷ 248
+    line_info 1 (line 315556557 2911774052 60524014 3318948344 ∷ []) (205 ∷ 2 ∷ 207 ∷ 18 ∷ 100 ∷ 37 ∷ 142 ∷ 173 ∷ 238 ∷ 133 ∷ 155 ∷ 3 ∷ 248
     ∷ 33 ∷ 211 ∷ 197 ∷ [])
-    ∷ line_info_lem 1 (line 344100528 2503799868 3391849347 4094427678 ∷ []) (176 ∷ 142 ∷ 130 ∷ 20 ∷ 60 ∷ 244 ∷ 60 ∷ 149 ∷ 131 ∷ 131 ∷ 43 ∷ 202
+    ∷ line_info 1 (line 344100528 2503799868 3391849347 4094427678 ∷ []) (176 ∷ 142 ∷ 130 ∷ 20 ∷ 60 ∷ 244 ∷ 60 ∷ 149 ∷ 131 ∷ 131 ∷ 43 ∷ 202
     ∷ 30 ∷ 2 ∷ 12 ∷ 244 ∷ [])
-    ∷ line_info_lem 2 (line 163730528 3660878293 762123742 1997785161 ∷ line 178321595 255833209 1760953889 568415160 ∷ []) (96 ∷ 84 ∷ 194 ∷ 9
+    ∷ line_info 2 (line 163730528 3660878293 762123742 1997785161 ∷ line 178321595 255833209 1760953889 568415160 ∷ []) (96 ∷ 84 ∷ 194 ∷ 9
     ∷ 213 ∷ 145 ∷ 52 ∷ 218 ∷ 222 ∷ 21 ∷ 109 ∷ 45 ∷ 73 ∷ 200 ∷ 19 ∷ 119 ∷ 187 ∷ 248 ∷ 160 ∷ 10 ∷ 121 ∷ 180 ∷ 63 ∷ 15 ∷ 33 ∷ 6 ∷ 246
     ∷ 104 ∷ 184 ∷ 83 ∷ 225 ∷ 33 ∷ [])
-    ∷ line_info_lem 2 (line 289083067 167839603 3840598309 2406820266 ∷ line 20963804 1669426340 3859375143 4180089515 ∷ []) (187 ∷ 14 ∷ 59 ∷ 17
+    ∷ line_info 2 (line 289083067 167839603 3840598309 2406820266 ∷ line 20963804 1669426340 3859375143 4180089515 ∷ []) (187 ∷ 14 ∷ 59 ∷ 17
     ∷ 115 ∷ 7 ∷ 1 ∷ 10 ∷ 37 ∷ 225 ∷ 234 ∷ 228 ∷ 170 ∷ 41 ∷ 117 ∷ 143 ∷ 220 ∷ 225 ∷ 63 ∷ 1 ∷ 164 ∷ 108 ∷ 129 ∷ 99 ∷ 39 ∷ 100 ∷ 9 ∷ 230
     ∷ 171 ∷ 26 ∷ 39 ∷ 249 ∷ [])
-    ∷ line_info_lem 2 (line 213951447 3138221120 306670537 2577606202 ∷ line 372888323 250701058 436929777 72104436 ∷ []) (215 ∷ 163 ∷ 192 ∷ 12
+    ∷ line_info 2 (line 213951447 3138221120 306670537 2577606202 ∷ line 372888323 250701058 436929777 72104436 ∷ []) (215 ∷ 163 ∷ 192 ∷ 12
     ∷ 64 ∷ 116 ∷ 13 ∷ 187 ∷ 201 ∷ 107 ∷ 71 ∷ 18 ∷ 58 ∷ 38 ∷ 163 ∷ 153 ∷ 3 ∷ 211 ∷ 57 ∷ 22 ∷ 2 ∷ 101 ∷ 241 ∷ 14 ∷ 241 ∷ 4 ∷ 11 ∷ 26
     ∷ 244 ∷ 57 ∷ 76 ∷ 4 ∷ [])
-    ∷ line_info_lem 1 (line 10331239 98449483 1757740038 211531446 ∷ []) (103 ∷ 164 ∷ 157 ∷ 0 ∷ 75 ∷ 56 ∷ 222 ∷ 5 ∷ 6 ∷ 252 ∷ 196 ∷ 104 ∷ 182 ∷ 182
+    ∷ line_info 1 (line 10331239 98449483 1757740038 211531446 ∷ []) (103 ∷ 164 ∷ 157 ∷ 0 ∷ 75 ∷ 56 ∷ 222 ∷ 5 ∷ 6 ∷ 252 ∷ 196 ∷ 104 ∷ 182 ∷ 182
     ∷ 155 ∷ 12 ∷ [])
-    ∷ line_info_lem 2 (line 312549176 2431407937 2507679153 769551268 ∷ line 302082988 848090991 3272268850 916071911 ∷ []) (56 ∷ 31 ∷ 161 ∷ 18
+    ∷ line_info 2 (line 312549176 2431407937 2507679153 769551268 ∷ line 302082988 848090991 3272268850 916071911 ∷ []) (56 ∷ 31 ∷ 161 ∷ 18
     ∷ 65 ∷ 87 ∷ 236 ∷ 144 ∷ 177 ∷ 37 ∷ 120 ∷ 149 ∷ 164 ∷ 107 ∷ 222 ∷ 45 ∷ 172 ∷ 107 ∷ 1 ∷ 18 ∷ 111 ∷ 215 ∷ 140 ∷ 50 ∷ 50 ∷ 220 ∷ 10
     ∷ 195 ∷ 231 ∷ 37 ∷ 154 ∷ 54 ∷ [])
-    ∷ line_info_lem 1 (line 261286315 3479517311 3803686404 3342638798 ∷ []) (171 ∷ 233 ∷ 146 ∷ 15 ∷ 127 ∷ 56 ∷ 101 ∷ 207 ∷ 4 ∷ 166 ∷ 183 ∷ 226
+    ∷ line_info 1 (line 261286315 3479517311 3803686404 3342638798 ∷ []) (171 ∷ 233 ∷ 146 ∷ 15 ∷ 127 ∷ 56 ∷ 101 ∷ 207 ∷ 4 ∷ 166 ∷ 183 ∷ 226
     ∷ 206 ∷ 158 ∷ 60 ∷ 199 ∷ [])
-    ∷ line_info_lem 2 (line 468994540 1467451424 3300874651 2930413509 ∷ []) (236 ∷ 73 ∷ 244 ∷ 27 ∷ 32 ∷ 136 ∷ 119 ∷ 87 ∷ 155 ∷ 89 ∷ 191 ∷ 196
+    ∷ line_info 2 (line 468994540 1467451424 3300874651 2930413509 ∷ []) (236 ∷ 73 ∷ 244 ∷ 27 ∷ 32 ∷ 136 ∷ 119 ∷ 87 ∷ 155 ∷ 89 ∷ 191 ∷ 196
     ∷ 197 ∷ 143 ∷ 170 ∷ 174 ∷ [])
-    ∷ line_info_lem 1 [] []
+    ∷ line_info 1 [] []
     ∷ [])
-unfolding u32_at chunks read_at read_func_info read_line_info parse_func parse_line func_info_bytes_lem line_info_bytes_lem
+unfolding u32_at chunks read_at read_func_info read_line_info parse_func parse_line crate_func_info_bytes crate_line_info_bytes
 vectors_4 = refl
 
 vectors_5 : (
@@ -239,25 +239,25 @@ vectors_5 : (
     ∷ 239 ∷ 175 ∷ 225 ∷ 177 ∷ 113 ∷ 174 ∷ 233 ∷ 23 ∷ 20 ∷ 248 ∷ 245 ∷ 74 ∷ []) little
     ∷ [])
     ≡ (
-    line_info_lem 0 (line 426047760 3299525154 2960084758 1198678206 ∷ []) (16 ∷ 249 ∷ 100 ∷ 25 ∷ 34 ∷ 194 ∷ 170 ∷ 196 ∷ 22 ∷ 79 ∷ 111 ∷ 176
+    line_info 0 (line 426047760 3299525154 2960084758 1198678206 ∷ []) (16 ∷ 249 ∷ 100 ∷ 25 ∷ 34 ∷ 194 ∷ 170 ∷ 196 ∷ 22 ∷ 79 ∷ 111 ∷ 176
     ∷ 190 ∷ 96 ∷ 114 ∷ 71 ∷ [])
     ∷ panicked
-    ∷ line_info_lem 0 [] []
+    ∷ line_info 0 [] []
     ∷ panicked
-    ∷ line_info_lem 0 [] []
-    ∷ line_info_lem 0 [] []
-    ∷ line_info_lem 1 (line 11558488 2084151405 3054744439 2191134387 ∷ []) (88 ∷ 94 ∷ 176 ∷ 0 ∷ 109 ∷ 160 ∷ 57 ∷ 124 ∷ 119 ∷ 179 ∷ 19 ∷ 182 ∷ 179
+    ∷ line_info 0 [] []
+    ∷ line_info 0 [] []
+    ∷ line_info 1 (line 11558488 2084151405 3054744439 2191134387 ∷ []) (88 ∷ 94 ∷ 176 ∷ 0 ∷ 109 ∷ 160 ∷ 57 ∷ 124 ∷ 119 ∷ 179 ∷ 19 ∷ 182 ∷ 179
     ∷ 14 ∷ 154 ∷ 130 ∷ [])
-    ∷ line_info_lem 1 (line 129635993 4202479495 1958449813 1448994140 ∷ []) (153 ∷ 22 ∷ 186 ∷ 7 ∷ 135 ∷ 191 ∷ 124 ∷ 250 ∷ 149 ∷ 146 ∷ 187 ∷ 116
+    ∷ line_info 1 (line 129635993 4202479495 1958449813 1448994140 ∷ []) (153 ∷ 22 ∷ 186 ∷ 7 ∷ 135 ∷ 191 ∷ 124 ∷ 250 ∷ 149 ∷ 146 ∷ 187 ∷ 116
     ∷ 92 ∷ 229 ∷ 93 ∷ 86 ∷ [])
-    ∷ line_info_lem 2 (line 315552766 1104465349 3313541063 3391877409 ∷ line 173012085 1347139069 2494838526 3413536387 ∷ []) (254 ∷ 243 ∷ 206
+    ∷ line_info 2 (line 315552766 1104465349 3313541063 3391877409 ∷ line 173012085 1347139069 2494838526 3413536387 ∷ []) (254 ∷ 243 ∷ 206
     ∷ 18 ∷ 197 ∷ 205 ∷ 212 ∷ 65 ∷ 199 ∷ 159 ∷ 128 ∷ 197 ∷ 33 ∷ 241 ∷ 43 ∷ 202 ∷ 117 ∷ 244 ∷ 79 ∷ 10 ∷ 253 ∷ 181 ∷ 75 ∷ 80 ∷ 254 ∷ 54
     ∷ 180 ∷ 148 ∷ 131 ∷ 110 ∷ 118 ∷ 203 ∷ [])
-    ∷ line_info_lem 2 (line 319386648 3199416172 1570230395 2795890612 ∷ line 13726267 3786403585 3920523697 4126675991 ∷ []) (24 ∷ 116 ∷ 9 ∷ 19
+    ∷ line_info 2 (line 319386648 3199416172 1570230395 2795890612 ∷ line 13726267 3786403585 3920523697 4126675991 ∷ []) (24 ∷ 116 ∷ 9 ∷ 19
     ∷ 108 ∷ 55 ∷ 179 ∷ 190 ∷ 123 ∷ 208 ∷ 151 ∷ 93 ∷ 180 ∷ 231 ∷ 165 ∷ 166 ∷ 59 ∷ 114 ∷ 209 ∷ 0 ∷ 1 ∷ 239 ∷ 175 ∷ 225 ∷ 177 ∷ 113
     ∷ 174 ∷ 233 ∷ 23 ∷ 20 ∷ 248 ∷ 245 ∷ [])
     ∷ [])
-unfolding u32_at chunks read_at read_func_info read_line_info parse_func parse_line func_info_bytes_lem line_info_bytes_lem
+unfolding u32_at chunks read_at read_func_info read_line_info parse_func parse_line crate_func_info_bytes crate_line_info_bytes
 vectors_5 = refl
 
 vectors_6 : (
@@ -285,22 +285,22 @@ vectors_6 : (
     ∷ lines 1 29 (96 ∷ 213 ∷ 230 ∷ 208 ∷ 204 ∷ 248 ∷ 66 ∷ 2 ∷ 127 ∷ 180 ∷ 137 ∷ 180 ∷ 205 ∷ 241 ∷ 106 ∷ 59 ∷ []) little
     ∷ [])
     ≡ (
-    line_info_lem 2 (line 243784824 626593021 825542627 3610221797 ∷ line 486300161 925179813 88699478 788095679 ∷ []) (120 ∷ 220 ∷ 135 ∷ 14
+    line_info 2 (line 243784824 626593021 825542627 3610221797 ∷ line 486300161 925179813 88699478 788095679 ∷ []) (120 ∷ 220 ∷ 135 ∷ 14
     ∷ 253 ∷ 12 ∷ 89 ∷ 37 ∷ 227 ∷ 199 ∷ 52 ∷ 49 ∷ 229 ∷ 156 ∷ 47 ∷ 215 ∷ 1 ∷ 90 ∷ 252 ∷ 28 ∷ 165 ∷ 31 ∷ 37 ∷ 55 ∷ 86 ∷ 114 ∷ 73 ∷ 5
     ∷ 191 ∷ 98 ∷ 249 ∷ 46 ∷ [])
-    ∷ line_info_lem 1 (line 169781612 1905353531 967575714 4017389942 ∷ []) (108 ∷ 169 ∷ 30 ∷ 10 ∷ 59 ∷ 99 ∷ 145 ∷ 113 ∷ 162 ∷ 8 ∷ 172 ∷ 57 ∷ 118
+    ∷ line_info 1 (line 169781612 1905353531 967575714 4017389942 ∷ []) (108 ∷ 169 ∷ 30 ∷ 10 ∷ 59 ∷ 99 ∷ 145 ∷ 113 ∷ 162 ∷ 8 ∷ 172 ∷ 57 ∷ 118
     ∷ 129 ∷ 116 ∷ 239 ∷ [])
     ∷ panicked
     ∷ panicked
     ∷ panicked
     ∷ panicked
-    ∷ line_info_lem 2 (line 192325082 2397709898 3756982133 1202932581 ∷ line 438276656 29354757 350113239 2851367219 ∷ []) (218 ∷ 165 ∷ 118 ∷ 11
+    ∷ line_info 2 (line 192325082 2397709898 3756982133 1202932581 ∷ line 438276656 29354757 350113239 2851367219 ∷ []) (218 ∷ 165 ∷ 118 ∷ 11
     ∷ 74 ∷ 38 ∷ 234 ∷ 142 ∷ 117 ∷ 255 ∷ 238 ∷ 223 ∷ 101 ∷ 75 ∷ 179 ∷ 71 ∷ 48 ∷ 146 ∷ 31 ∷ 26 ∷ 5 ∷ 235 ∷ 191 ∷ 1 ∷ 215 ∷ 77 ∷ 222
     ∷ 20 ∷ 51 ∷ 105 ∷ 244 ∷ 169 ∷ [])
     ∷ panicked
     ∷ panicked
-    ∷ line_info_lem 1 (line 438098604 37943500 3028923519 996864461 ∷ []) (172 ∷ 218 ∷ 28 ∷ 26 ∷ 204 ∷ 248 ∷ 66 ∷ 2 ∷ 127 ∷ 180 ∷ 137 ∷ 180 ∷ 205
+    ∷ line_info 1 (line 438098604 37943500 3028923519 996864461 ∷ []) (172 ∷ 218 ∷ 28 ∷ 26 ∷ 204 ∷ 248 ∷ 66 ∷ 2 ∷ 127 ∷ 180 ∷ 137 ∷ 180 ∷ 205
     ∷ 241 ∷ 106 ∷ 59 ∷ [])
     ∷ [])
-unfolding u32_at chunks read_at read_func_info read_line_info parse_func parse_line func_info_bytes_lem line_info_bytes_lem
+unfolding u32_at chunks read_at read_func_info read_line_info parse_func parse_line crate_func_info_bytes crate_line_info_bytes
 vectors_6 = refl

@@ -16,8 +16,8 @@ use Rattle.rules.specs.Rows.{row_size, Offered, tables_of}
 use Rattle.rules.specs.Readers.{Info, on_grid, is_whole, row_of_record, rows_of_records, read, read_records, record_part}
 use Rattle.rules.proofs.Linking.{length_run}
 use Rattle.equality.specs.Crate.{Result, ok, bind}
-use Rattle.equality.specs.Info.{SecInfo, chunks, collect, parse, put_all, parse_func, parse_line, read_func_info, read_line_info, bytes_of_func, bytes_of_line, func_info_bytes_lem, line_info_bytes_lem}
-use Rattle.equality.specs.Readers.{Records, func, line, table_of, RecordOf, crate_reads, crate_bytes, read_table, record_size, whole_data, on_grid_lem, has_room, ReaderDomain, SameRecords, EqualRecords}
+use Rattle.equality.specs.Info.{SecInfo, chunks, collect, parse, put_all, parse_func, parse_line, read_func_info, read_line_info, bytes_of_func, bytes_of_line, crate_func_info_bytes, crate_line_info_bytes}
+use Rattle.equality.specs.Readers.{Records, func, line, table_of, RecordOf, crate_reads, crate_bytes, read_table, record_size, whole_data, on_the_grid, has_room, ReaderDomain, SameRecords, EqualRecords}
 use Rattle.equality.proofs.Records.{chunk, chunks_are, collect_run, func_at, line_at, func_read, line_read, func_row, line_row, rows_run, func_bytes_long, line_bytes_long, func_back, line_back}
 
 -- what the clauses say is what our tests ask
@@ -70,7 +70,7 @@ module _ (t : Records) (order : Order) (info : Info) (room : ℕ) (domain : Read
       ∙ ap (λ x. bind x given) (collect_run read_one (chunk info.size info.bytes) at 0 info.count (λ j a b. reads j (omega arith)))
 
   ours : read_records order (table_of t) info room ≡ read (reply 0 info.count 0 0) (padded room (rows_of_records order (table_of t) info 0 info.count))
-  ours = ours_reads order (table_of t) info room fits (domain.holds whole_data tt) (domain.holds on_grid_lem tt) (domain.holds has_room tt)
+  ours = ours_reads order (table_of t) info room fits (domain.holds whole_data tt) (domain.holds on_the_grid tt) (domain.holds has_room tt)
 
   out : (read_records order (table_of t) info room).out ≡ padded room (crate_bytes t order records)
   out =
@@ -100,7 +100,7 @@ fields func order info room domain = (domain.holds record_size tt, omega (arith,
 fields line order info room domain = (domain.holds record_size tt, omega (arith, domain.holds record_size tt))
 
 pub demand_2_readers : (t : Records) → EqualRecords (λ c. Unit {0}) t
-unfolding parse_func parse_line func_info_bytes_lem line_info_bytes_lem
+unfolding parse_func parse_line crate_func_info_bytes crate_line_info_bytes
 demand_2_readers func order info room domain =
     let f = fields func order info room domain in
     let whole = domain.holds whole_data tt in
@@ -128,7 +128,7 @@ record_parts t order info room domain =
         rw (
           le-leb (row_size (table_of t)) info.size (fields t order info room domain).0,
           eq-eqb (info.count * info.size) (length info.bytes) (domain.holds whole_data tt),
-          grid_passes order info 0 info.count (λ j a b. domain.holds on_grid_lem tt j (omega arith)),
+          grid_passes order info 0 info.count (λ j a b. domain.holds on_the_grid tt j (omega arith)),
           lt-ltb k info.count l,
         )
         refl

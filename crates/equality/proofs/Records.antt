@@ -20,7 +20,7 @@ use Rattle.rules.specs.Entries.{func_info_bytes, line_info_bytes}
 use Rattle.rules.proofs.Writing.{u32_same}
 use Rattle.rules.proofs.Rounds.{number4_of, bytes4_at, from_part}
 use Rattle.equality.specs.Crate.{Result, ok, bind}
-use Rattle.equality.specs.Info.{INS_SIZE, chunks_of, chunks, read_at, read_func_info, read_line_info, collect, bytes_of_func, bytes_of_line, put_all, func_info_bytes_lem, line_info_bytes_lem, bytes_of_insn, insn_bytes}
+use Rattle.equality.specs.Info.{INS_SIZE, chunks_of, chunks, read_at, read_func_info, read_line_info, collect, bytes_of_func, bytes_of_line, put_all, crate_func_info_bytes, crate_line_info_bytes, bytes_of_insn, insn_bytes}
 use Rattle.equality.specs.Readers.{func, line, read_table}
 
 -- ---- chunks
@@ -170,15 +170,15 @@ rows_run order table info bytes_of r k (suc n) each =
 
 -- ---- our encoder and the crate's
 
-pub same_func_bytes : (order : Order) (rs : List FunctionRecord) → func_info_bytes order rs ≡ func_info_bytes_lem order rs
-unfolding func_info_bytes_lem
+pub same_func_bytes : (order : Order) (rs : List FunctionRecord) → func_info_bytes order rs ≡ crate_func_info_bytes order rs
+unfolding crate_func_info_bytes
 same_func_bytes order [] = refl
 same_func_bytes order (r ∷ rs) =
     ap (λ x. bytes4 order r.slot ++ (bytes4 order r.kind ++ x)) (same_func_bytes order rs)
-    ∙ sym (append_assoc (bytes4 order r.slot) (bytes4 order r.kind) (func_info_bytes_lem order rs))
+    ∙ sym (append_assoc (bytes4 order r.slot) (bytes4 order r.kind) (crate_func_info_bytes order rs))
 
-pub same_line_bytes : (order : Order) (rs : List LineRecord) → line_info_bytes order rs ≡ line_info_bytes_lem order rs
-unfolding line_info_bytes_lem
+pub same_line_bytes : (order : Order) (rs : List LineRecord) → line_info_bytes order rs ≡ crate_line_info_bytes order rs
+unfolding crate_line_info_bytes
 same_line_bytes order [] = refl
 same_line_bytes little (r ∷ rs) =
     ap (λ x. bytes4 little r.slot ++ (bytes4 little r.file ++ (bytes4 little r.line ++ (bytes4 little r.column ++ x)))) (same_line_bytes little rs)
@@ -234,12 +234,12 @@ line_long : (order : Order) (r : LineRecord) → length (bytes_of_line order r) 
 line_long little r = refl
 line_long big r = refl
 
-pub func_bytes_long : (order : Order) (rs : List FunctionRecord) → length (func_info_bytes_lem order rs) ≡ 8 * length rs
-unfolding func_info_bytes_lem
+pub func_bytes_long : (order : Order) (rs : List FunctionRecord) → length (crate_func_info_bytes order rs) ≡ 8 * length rs
+unfolding crate_func_info_bytes
 func_bytes_long order = all_long 8 (bytes_of_func order) (func_long order)
 
-pub line_bytes_long : (order : Order) (rs : List LineRecord) → length (line_info_bytes_lem order rs) ≡ 16 * length rs
-unfolding line_info_bytes_lem
+pub line_bytes_long : (order : Order) (rs : List LineRecord) → length (crate_line_info_bytes order rs) ≡ 16 * length rs
+unfolding crate_line_info_bytes
 line_bytes_long order = all_long 16 (bytes_of_line order) (line_long order)
 
 func_first : (order : Order) (r : FunctionRecord) (rest : List ℕ) → func_info_row order (bytes_of_func order r ++ rest) 0 ≡ r
@@ -282,14 +282,14 @@ line_later order r rest k =
     let column = later order x rest 16 k 12 (line_long order r) in
     λ i. record { slot = slot i; file = file i; line = number i; column = column i }
 
-pub func_back : (order : Order) (rs : List FunctionRecord) → read_table func order (func_info_bytes_lem order rs) ≡ rs
-unfolding func_info_bytes_lem
+pub func_back : (order : Order) (rs : List FunctionRecord) → read_table func order (crate_func_info_bytes order rs) ≡ rs
+unfolding crate_func_info_bytes
 func_back order rs =
-    let e : length (func_info_bytes_lem order rs) / 8 ≡ length rs = omega (arith, func_bytes_long order rs) in
-    ap (run (func_info_row order (func_info_bytes_lem order rs)) 0) e ∙ rows_back (func_info_row order) (bytes_of_func order) (func_first order) (func_later order) rs
+    let e : length (crate_func_info_bytes order rs) / 8 ≡ length rs = omega (arith, func_bytes_long order rs) in
+    ap (run (func_info_row order (crate_func_info_bytes order rs)) 0) e ∙ rows_back (func_info_row order) (bytes_of_func order) (func_first order) (func_later order) rs
 
-pub line_back : (order : Order) (rs : List LineRecord) → read_table line order (line_info_bytes_lem order rs) ≡ rs
-unfolding line_info_bytes_lem
+pub line_back : (order : Order) (rs : List LineRecord) → read_table line order (crate_line_info_bytes order rs) ≡ rs
+unfolding crate_line_info_bytes
 line_back order rs =
-    let e : length (line_info_bytes_lem order rs) / 16 ≡ length rs = omega (arith, line_bytes_long order rs) in
-    ap (run (line_info_row order (line_info_bytes_lem order rs)) 0) e ∙ rows_back (line_info_row order) (bytes_of_line order) (line_first order) (line_later order) rs
+    let e : length (crate_line_info_bytes order rs) / 16 ≡ length rs = omega (arith, line_bytes_long order rs) in
+    ap (run (line_info_row order (crate_line_info_bytes order rs)) 0) e ∙ rows_back (line_info_row order) (bytes_of_line order) (line_first order) (line_later order) rs

@@ -14,7 +14,7 @@ use Rattle.rules.specs.Bytes.{signed}
 use Rattle.rules.specs.Tables.{SymbolKind, other, text, section, Symbol, Function, Relocation, MapRow, FunctionRecord, LineRecord, Tables}
 use Rattle.rules.specs.Maps.{only}
 use Rattle.equality.specs.Crate as Crate
-use Rattle.equality.specs.Crate.{u32, u64, i32, add_u64, mul_u64, add_u32, sub_u32, add_i32, sub_i32, insn_is_call_lem, Result, ok, err, panics, too_deep, Error, unknown_symbol, section_not_found, unknown_function, unknown_program, invalid_relocation_offset, Linker, relocate_map, relocate_maps_lem, relocate_functions, object_relocate_maps, slot_of, relocate_from, relocate, link_new, relocate_calls}
+use Rattle.equality.specs.Crate.{u32, u64, i32, add_u64, mul_u64, add_u32, sub_u32, add_i32, sub_i32, insn_is_call, Result, ok, err, panics, too_deep, Error, unknown_symbol, section_not_found, unknown_function, unknown_program, invalid_relocation_offset, Linker, relocate_map, relocate_maps, relocate_functions, object_relocate_maps, slot_of, relocate_from, relocate, link_new, relocate_calls}
 use Rattle.equality.specs.Domain.{Hidden, crate_of}
 use Rattle.equality.specs.Demand2.{both_steps}
 
@@ -36,11 +36,11 @@ seen_maps (err e) = errs e
 seen_maps panics = panicked
 seen_maps too_deep = never
 
-abbrev seen_link_lem : Result Linker → Seen
-seen_link_lem (ok program) = gives program.instructions program.func_info_lem program.func_num_info program.line_info_lem program.line_num_info
-seen_link_lem (err e) = errs e
-seen_link_lem panics = panicked
-seen_link_lem too_deep = never
+abbrev seen_of_link : Result Linker → Seen
+seen_of_link (ok program) = gives program.instructions program.func_info program.func_num_info program.line_info program.line_num_info
+seen_of_link (err e) = errs e
+seen_of_link panics = panicked
+seen_of_link too_deep = never
 
 abbrev insn : ℕ → ℕ → ℕ → ℤ → ℤ → Insn
 insn opcode destination source offset immediate = record { opcode = opcode; destination = destination; source = source; offset = offset; immediate = immediate }
@@ -84,11 +84,11 @@ object_of t func_nums line_nums =
 abbrev steps : Tables → List ℕ → List ℕ → List MapRow → ℕ → ℕ → List Seen
 steps t func_nums line_nums maps section_index address =
     seen_maps (object_relocate_maps (object_of t func_nums line_nums) maps)
-    ∷ seen_link_lem (both_steps (object_of t func_nums line_nums) maps section_index address)
+    ∷ seen_of_link (both_steps (object_of t func_nums line_nums) maps section_index address)
     ∷ []
 
 abbrev calls_alone : Tables → List ℕ → List ℕ → List MapRow → ℕ → ℕ → List Seen
-calls_alone t func_nums line_nums maps section_index address = seen_link_lem (relocate_calls (object_of t func_nums line_nums) section_index address) ∷ []
+calls_alone t func_nums line_nums maps section_index address = seen_of_link (relocate_calls (object_of t func_nums line_nums) section_index address) ∷ []
 
 vectors_1 : (
     -- 11: no room: link: ours 11, the crate accepts
@@ -214,7 +214,7 @@ vectors_1 : (
     ∷ (leaves (insn 149 0 0 (pos 0) (pos 0) ∷ insn 149 0 2 (pos 0) (pos 12) ∷ insn 149 0 0 (pos 0) (pos 25) ∷ []) ∷ gives (insn 149 0 0 (pos 0) (pos 0) ∷ insn 149 0 2 (pos 0) (pos 12) ∷ insn 149 0 0 (pos 0) (pos 25) ∷ []) [] 0 [] 0 ∷ [])
     ∷ (leaves (insn 149 0 0 (pos 0) (pos 0) ∷ insn 149 0 0 (pos 0) (pos 0) ∷ insn 149 0 0 (pos 0) (pos 0) ∷ insn 149 0 1 (pos 0) (negsuc 0) ∷ []) ∷ panicked ∷ [])
     ∷ [])
-unfolding signed u32 u64 i32 add_u64 mul_u64 add_u32 sub_u32 add_i32 sub_i32 insn_is_call_lem relocate_map relocate_maps_lem relocate_functions object_relocate_maps slot_of relocate_from relocate link_new Crate.link relocate_calls crate_of both_steps
+unfolding signed u32 u64 i32 add_u64 mul_u64 add_u32 sub_u32 add_i32 sub_i32 insn_is_call relocate_map relocate_maps relocate_functions object_relocate_maps slot_of relocate_from relocate link_new Crate.link relocate_calls crate_of both_steps
 vectors_1 = refl
 
 vectors_2 : (
@@ -341,7 +341,7 @@ vectors_2 : (
     ∷ (errs invalid_relocation_offset ∷ errs invalid_relocation_offset ∷ [])
     ∷ (errs section_not_found ∷ errs section_not_found ∷ [])
     ∷ [])
-unfolding signed u32 u64 i32 add_u64 mul_u64 add_u32 sub_u32 add_i32 sub_i32 insn_is_call_lem relocate_map relocate_maps_lem relocate_functions object_relocate_maps slot_of relocate_from relocate link_new Crate.link relocate_calls crate_of both_steps
+unfolding signed u32 u64 i32 add_u64 mul_u64 add_u32 sub_u32 add_i32 sub_i32 insn_is_call relocate_map relocate_maps relocate_functions object_relocate_maps slot_of relocate_from relocate link_new Crate.link relocate_calls crate_of both_steps
 vectors_2 = refl
 
 vectors_3 : (
@@ -468,7 +468,7 @@ vectors_3 : (
     ∷ (leaves (insn 149 0 0 (pos 0) (pos 0) ∷ insn 24 1 2 (pos 0) (pos 95) ∷ insn 0 0 0 (pos 0) (pos 0) ∷ []) ∷ panicked ∷ [])
     ∷ (leaves (insn 149 0 0 (pos 0) (pos 0) ∷ []) ∷ panicked ∷ [])
     ∷ [])
-unfolding signed u32 u64 i32 add_u64 mul_u64 add_u32 sub_u32 add_i32 sub_i32 insn_is_call_lem relocate_map relocate_maps_lem relocate_functions object_relocate_maps slot_of relocate_from relocate link_new Crate.link relocate_calls crate_of both_steps
+unfolding signed u32 u64 i32 add_u64 mul_u64 add_u32 sub_u32 add_i32 sub_i32 insn_is_call relocate_map relocate_maps relocate_functions object_relocate_maps slot_of relocate_from relocate link_new Crate.link relocate_calls crate_of both_steps
 vectors_3 = refl
 
 vectors_4 : (
@@ -595,7 +595,7 @@ vectors_4 : (
     ∷ (errs unknown_function ∷ [])
     ∷ (gives (insn 149 0 0 (pos 0) (pos 0) ∷ []) [] 0 [] 0 ∷ [])
     ∷ [])
-unfolding signed u32 u64 i32 add_u64 mul_u64 add_u32 sub_u32 add_i32 sub_i32 insn_is_call_lem relocate_map relocate_maps_lem relocate_functions object_relocate_maps slot_of relocate_from relocate link_new Crate.link relocate_calls crate_of both_steps
+unfolding signed u32 u64 i32 add_u64 mul_u64 add_u32 sub_u32 add_i32 sub_i32 insn_is_call relocate_map relocate_maps relocate_functions object_relocate_maps slot_of relocate_from relocate link_new Crate.link relocate_calls crate_of both_steps
 vectors_4 = refl
 
 vectors_5 : (
@@ -722,7 +722,7 @@ vectors_5 : (
     ∷ (leaves (insn 24 1 1 (pos 0) (negsuc 1629157433) ∷ insn 0 0 0 (pos 0) (pos 3) ∷ insn 24 1 0 (pos 0) (pos 144) ∷ insn 0 0 0 (pos 0) (negsuc 2) ∷ []) ∷ gives (insn 24 1 1 (pos 0) (negsuc 1629157433) ∷ insn 0 0 0 (pos 0) (pos 3) ∷ insn 24 1 4 (pos 0) (pos 1) ∷ insn 0 0 0 (pos 0) (negsuc 2) ∷ insn 24 1 1 (pos 0) (negsuc 1629157433) ∷ insn 0 0 0 (pos 0) (pos 3) ∷ insn 24 1 4 (pos 0) (negsuc 2) ∷ insn 0 0 0 (pos 0) (negsuc 2) ∷ []) (func 0 52 ∷ func 4 52 ∷ []) 2 (line 37 1 217 127241026 ∷ line 37 0 286 3000354953 ∷ line 4 1 217 127241026 ∷ line 4 0 286 3000354953 ∷ []) 4 ∷ [])
     ∷ (leaves (insn 24 8 0 (pos 0) (negsuc 76) ∷ insn 0 0 0 (pos 0) (pos 0) ∷ insn 24 4 1 (pos 0) (pos 92) ∷ insn 0 0 0 (pos 0) (pos 0) ∷ []) ∷ gives (insn 24 8 4 (pos 0) (pos 3) ∷ insn 0 0 0 (pos 0) (pos 0) ∷ insn 24 4 1 (pos 0) (pos 92) ∷ insn 0 0 0 (pos 0) (pos 0) ∷ insn 24 8 4 (pos 0) (negsuc 0) ∷ insn 0 0 0 (pos 0) (pos 0) ∷ insn 24 4 1 (pos 0) (pos 92) ∷ insn 0 0 0 (pos 0) (pos 0) ∷ []) [] 0 (line 0 1 496 4190024477 ∷ line 3 1 388 2906285246 ∷ line 4 1 496 4190024477 ∷ line 7 1 388 2906285246 ∷ []) 4 ∷ [])
     ∷ [])
-unfolding signed u32 u64 i32 add_u64 mul_u64 add_u32 sub_u32 add_i32 sub_i32 insn_is_call_lem relocate_map relocate_maps_lem relocate_functions object_relocate_maps slot_of relocate_from relocate link_new Crate.link relocate_calls crate_of both_steps
+unfolding signed u32 u64 i32 add_u64 mul_u64 add_u32 sub_u32 add_i32 sub_i32 insn_is_call relocate_map relocate_maps relocate_functions object_relocate_maps slot_of relocate_from relocate link_new Crate.link relocate_calls crate_of both_steps
 vectors_5 = refl
 
 vectors_6 : (
@@ -849,7 +849,7 @@ vectors_6 : (
     ∷ (leaves (insn 24 15 1 (pos 0) (negsuc 755906480) ∷ insn 0 0 0 (pos 0) (negsuc 2) ∷ []) ∷ gives (insn 24 15 1 (pos 0) (negsuc 755906480) ∷ insn 0 0 0 (pos 0) (negsuc 2) ∷ []) (func 4294967295 3 ∷ []) 1 [] 0 ∷ [])
     ∷ (leaves (insn 24 14 1 (pos 0) (pos 29) ∷ insn 0 0 0 (pos 0) (negsuc 2) ∷ []) ∷ gives (insn 24 14 1 (pos 0) (pos 29) ∷ insn 0 0 0 (pos 0) (negsuc 2) ∷ []) (func 99 96 ∷ []) 1 (line 0 0 119 3106119784 ∷ line 1 1 259 59601846 ∷ []) 2 ∷ [])
     ∷ [])
-unfolding signed u32 u64 i32 add_u64 mul_u64 add_u32 sub_u32 add_i32 sub_i32 insn_is_call_lem relocate_map relocate_maps_lem relocate_functions object_relocate_maps slot_of relocate_from relocate link_new Crate.link relocate_calls crate_of both_steps
+unfolding signed u32 u64 i32 add_u64 mul_u64 add_u32 sub_u32 add_i32 sub_i32 insn_is_call relocate_map relocate_maps relocate_functions object_relocate_maps slot_of relocate_from relocate link_new Crate.link relocate_calls crate_of both_steps
 vectors_6 = refl
 
 vectors_7 : (
@@ -976,7 +976,7 @@ vectors_7 : (
     ∷ (leaves (insn 5 0 0 (negsuc 1) (pos 0) ∷ []) ∷ gives (insn 5 0 0 (negsuc 1) (pos 0) ∷ []) [] 0 (line 0 0 492 3495538852 ∷ line 0 1 270 215886861 ∷ []) 2 ∷ [])
     ∷ (leaves (insn 133 0 1 (pos 0) (negsuc 0) ∷ insn 149 0 0 (pos 0) (pos 0) ∷ []) ∷ gives (insn 133 0 1 (pos 0) (pos 0) ∷ insn 149 0 0 (pos 0) (pos 0) ∷ []) [] 0 [] 0 ∷ [])
     ∷ [])
-unfolding signed u32 u64 i32 add_u64 mul_u64 add_u32 sub_u32 add_i32 sub_i32 insn_is_call_lem relocate_map relocate_maps_lem relocate_functions object_relocate_maps slot_of relocate_from relocate link_new Crate.link relocate_calls crate_of both_steps
+unfolding signed u32 u64 i32 add_u64 mul_u64 add_u32 sub_u32 add_i32 sub_i32 insn_is_call relocate_map relocate_maps relocate_functions object_relocate_maps slot_of relocate_from relocate link_new Crate.link relocate_calls crate_of both_steps
 vectors_7 = refl
 
 vectors_8 : (
@@ -1103,7 +1103,7 @@ vectors_8 : (
     ∷ (leaves (insn 183 1 0 (pos 0) (pos 5) ∷ insn 24 5 0 (pos 0) (pos 2147483647) ∷ insn 0 0 0 (pos 0) (pos 0) ∷ insn 149 0 0 (pos 0) (pos 0) ∷ []) ∷ gives (insn 183 1 0 (pos 0) (pos 5) ∷ insn 24 5 4 (pos 0) (pos 1) ∷ insn 0 0 0 (pos 0) (pos 0) ∷ insn 149 0 0 (pos 0) (pos 0) ∷ []) (func 0 33 ∷ []) 1 [] 0 ∷ [])
     ∷ (leaves (insn 24 3 0 (pos 0) (pos 5) ∷ insn 0 0 0 (pos 0) (pos 0) ∷ insn 213 11 1 (negsuc 2899) (negsuc 1022503440) ∷ []) ∷ gives (insn 24 3 4 (pos 0) (pos 1) ∷ insn 0 0 0 (pos 0) (pos 0) ∷ insn 213 11 1 (negsuc 2899) (negsuc 1022503440) ∷ []) (func 99 90 ∷ func 4294967295 40 ∷ []) 2 (line 10 1 462 1765926752 ∷ line 11 0 390 4164997970 ∷ line 10 2 421 1893383597 ∷ []) 3 ∷ [])
     ∷ [])
-unfolding signed u32 u64 i32 add_u64 mul_u64 add_u32 sub_u32 add_i32 sub_i32 insn_is_call_lem relocate_map relocate_maps_lem relocate_functions object_relocate_maps slot_of relocate_from relocate link_new Crate.link relocate_calls crate_of both_steps
+unfolding signed u32 u64 i32 add_u64 mul_u64 add_u32 sub_u32 add_i32 sub_i32 insn_is_call relocate_map relocate_maps relocate_functions object_relocate_maps slot_of relocate_from relocate link_new Crate.link relocate_calls crate_of both_steps
 vectors_8 = refl
 
 vectors_9 : (
@@ -1230,7 +1230,7 @@ vectors_9 : (
     ∷ (leaves (insn 133 0 1 (pos 0) (negsuc 0) ∷ insn 5 0 0 (negsuc 1) (pos 0) ∷ insn 24 1 1 (pos 0) (negsuc 1569590942) ∷ insn 0 0 0 (pos 0) (pos 0) ∷ insn 133 0 1 (pos 0) (pos 77) ∷ []) ∷ errs unknown_function ∷ [])
     ∷ (leaves (insn 133 0 0 (pos 0) (pos 1) ∷ insn 133 0 1 (pos 0) (negsuc 1) ∷ insn 133 0 1 (pos 0) (pos 2147483646) ∷ []) ∷ errs unknown_function ∷ [])
     ∷ [])
-unfolding signed u32 u64 i32 add_u64 mul_u64 add_u32 sub_u32 add_i32 sub_i32 insn_is_call_lem relocate_map relocate_maps_lem relocate_functions object_relocate_maps slot_of relocate_from relocate link_new Crate.link relocate_calls crate_of both_steps
+unfolding signed u32 u64 i32 add_u64 mul_u64 add_u32 sub_u32 add_i32 sub_i32 insn_is_call relocate_map relocate_maps relocate_functions object_relocate_maps slot_of relocate_from relocate link_new Crate.link relocate_calls crate_of both_steps
 vectors_9 = refl
 
 vectors_10 : (
@@ -1357,7 +1357,7 @@ vectors_10 : (
     ∷ (leaves (insn 220 10 4 (pos 26404) (pos 241884990) ∷ insn 133 0 1 (pos 0) (pos 2147483646) ∷ []) ∷ errs unknown_function ∷ [])
     ∷ (leaves (insn 133 0 1 (pos 0) (negsuc 2147483647) ∷ insn 133 0 1 (pos 1) (pos 1) ∷ []) ∷ errs unknown_function ∷ [])
     ∷ [])
-unfolding signed u32 u64 i32 add_u64 mul_u64 add_u32 sub_u32 add_i32 sub_i32 insn_is_call_lem relocate_map relocate_maps_lem relocate_functions object_relocate_maps slot_of relocate_from relocate link_new Crate.link relocate_calls crate_of both_steps
+unfolding signed u32 u64 i32 add_u64 mul_u64 add_u32 sub_u32 add_i32 sub_i32 insn_is_call relocate_map relocate_maps relocate_functions object_relocate_maps slot_of relocate_from relocate link_new Crate.link relocate_calls crate_of both_steps
 vectors_10 = refl
 
 vectors_11 : (
@@ -1484,7 +1484,7 @@ vectors_11 : (
     ∷ (errs unknown_symbol ∷ errs unknown_symbol ∷ [])
     ∷ (errs unknown_symbol ∷ errs unknown_symbol ∷ [])
     ∷ [])
-unfolding signed u32 u64 i32 add_u64 mul_u64 add_u32 sub_u32 add_i32 sub_i32 insn_is_call_lem relocate_map relocate_maps_lem relocate_functions object_relocate_maps slot_of relocate_from relocate link_new Crate.link relocate_calls crate_of both_steps
+unfolding signed u32 u64 i32 add_u64 mul_u64 add_u32 sub_u32 add_i32 sub_i32 insn_is_call relocate_map relocate_maps relocate_functions object_relocate_maps slot_of relocate_from relocate link_new Crate.link relocate_calls crate_of both_steps
 vectors_11 = refl
 
 vectors_12 : (
@@ -1611,7 +1611,7 @@ vectors_12 : (
     ∷ (errs section_not_found ∷ errs section_not_found ∷ [])
     ∷ (leaves (insn 133 0 1 (pos 0) (pos 131071) ∷ []) ∷ gives (insn 133 0 1 (pos 0) (pos 0) ∷ insn 133 0 1 (pos 0) (negsuc 0) ∷ []) [] 0 [] 0 ∷ [])
     ∷ [])
-unfolding signed u32 u64 i32 add_u64 mul_u64 add_u32 sub_u32 add_i32 sub_i32 insn_is_call_lem relocate_map relocate_maps_lem relocate_functions object_relocate_maps slot_of relocate_from relocate link_new Crate.link relocate_calls crate_of both_steps
+unfolding signed u32 u64 i32 add_u64 mul_u64 add_u32 sub_u32 add_i32 sub_i32 insn_is_call relocate_map relocate_maps relocate_functions object_relocate_maps slot_of relocate_from relocate link_new Crate.link relocate_calls crate_of both_steps
 vectors_12 = refl
 
 vectors_13 : (
@@ -1738,7 +1738,7 @@ vectors_13 : (
     ∷ (leaves (insn 24 1 0 (pos 0) (pos 2147483647) ∷ insn 0 0 0 (pos 0) (pos 0) ∷ insn 149 0 0 (pos 0) (pos 0) ∷ []) ∷ errs unknown_function ∷ [])
     ∷ (leaves (insn 24 1 0 (pos 0) (pos 2147483647) ∷ insn 0 0 0 (pos 0) (pos 0) ∷ insn 149 0 0 (pos 0) (pos 0) ∷ []) ∷ gives (insn 24 1 4 (pos 0) (pos 1) ∷ insn 0 0 0 (pos 0) (pos 0) ∷ insn 149 0 0 (pos 0) (pos 0) ∷ []) [] 0 [] 0 ∷ [])
     ∷ [])
-unfolding signed u32 u64 i32 add_u64 mul_u64 add_u32 sub_u32 add_i32 sub_i32 insn_is_call_lem relocate_map relocate_maps_lem relocate_functions object_relocate_maps slot_of relocate_from relocate link_new Crate.link relocate_calls crate_of both_steps
+unfolding signed u32 u64 i32 add_u64 mul_u64 add_u32 sub_u32 add_i32 sub_i32 insn_is_call relocate_map relocate_maps relocate_functions object_relocate_maps slot_of relocate_from relocate link_new Crate.link relocate_calls crate_of both_steps
 vectors_13 = refl
 
 vectors_14 : (
@@ -1757,5 +1757,5 @@ vectors_14 : (
     ≡ (
     (leaves (insn 24 1 0 (pos 0) (pos 2147483647) ∷ insn 0 0 0 (pos 0) (pos 0) ∷ insn 149 0 0 (pos 0) (pos 0) ∷ insn 149 0 0 (pos 0) (pos 0) ∷ insn 149 0 0 (pos 0) (pos 0) ∷ []) ∷ gives (insn 24 1 4 (pos 0) (pos 1) ∷ insn 0 0 0 (pos 0) (pos 0) ∷ insn 149 0 0 (pos 0) (pos 0) ∷ insn 149 0 0 (pos 0) (pos 0) ∷ []) [] 0 [] 0 ∷ [])
     ∷ [])
-unfolding signed u32 u64 i32 add_u64 mul_u64 add_u32 sub_u32 add_i32 sub_i32 insn_is_call_lem relocate_map relocate_maps_lem relocate_functions object_relocate_maps slot_of relocate_from relocate link_new Crate.link relocate_calls crate_of both_steps
+unfolding signed u32 u64 i32 add_u64 mul_u64 add_u32 sub_u32 add_i32 sub_i32 insn_is_call relocate_map relocate_maps relocate_functions object_relocate_maps slot_of relocate_from relocate link_new Crate.link relocate_calls crate_of both_steps
 vectors_14 = refl

@@ -79,9 +79,9 @@ pub record Function : Type 0 where
   pub section_index : ℕ
   pub section_offset : ℕ
   pub instructions : List Insn
-  pub func_info_lem : List FunctionRecord
+  pub func_info : List FunctionRecord
   pub func_num_info : ℕ
-  pub line_info_lem : List LineRecord
+  pub line_info : List LineRecord
   pub line_num_info : ℕ
 
 -- the object, with the order in which `relocations.values()` of a section iterates
@@ -94,21 +94,21 @@ pub record Object : Type 0 where
   pub symbol_table : HashMap Symbol
   pub text_sections : ℕ → Bool
 
-abbrev pub with_instructions_lem : Function → List Insn → Function
-with_instructions_lem f insns = record {
+abbrev pub with_insns : Function → List Insn → Function
+with_insns f insns = record {
   address = f.address;
   section_index = f.section_index;
   section_offset = f.section_offset;
   instructions = insns;
-  func_info_lem = f.func_info_lem;
+  func_info = f.func_info;
   func_num_info = f.func_num_info;
-  line_info_lem = f.line_info_lem;
+  line_info = f.line_info;
   line_num_info = f.line_num_info;
 }
 
 -- klass = code & 0x07, op = code & 0xF0, src = code & 0x08, of a byte
-unfoldable pub insn_is_call_lem : Insn → Bool
-insn_is_call_lem i =
+unfoldable pub insn_is_call : Insn → Bool
+insn_is_call i =
     eqb (i.opcode % 8) 0x05 && eqb (i.opcode / 16 % 16 * 16) 0x80 && eqb (i.opcode / 8 % 2 * 8) 0x00 && eqb i.source 1 && eqb i.destination 0
     && is_zero i.offset
 
@@ -126,7 +126,7 @@ abbrev pub maps_by_symbol : List MapRow → HashMap MapRow → HashMap MapRow
 maps_by_symbol [] m = m
 maps_by_symbol (x ∷ xs) m = maps_by_symbol xs (insert_symbol x.symbol x m)
 
-module _ (object : Object) (by_section_lem by_symbol_lem : HashMap MapRow) where
+module _ (object : Object) (by_section symbol_hash : HashMap MapRow) where
   -- `instructions[k + 1].imm = instructions[k].imm + sym.address as i32` is an index past the end at the last slot
   abbrev pub set_map : Bool → Bool → ℤ → ℕ → ℕ → List Insn → Result (List Insn)
   set_map false inside fd address k insns = ok (at k (with_immediate fd) (at k (with_source 1) insns))
@@ -139,15 +139,15 @@ module _ (object : Object) (by_section_lem by_symbol_lem : HashMap MapRow) where
   with_map none address k insns = err section_not_found
   with_map (some m) address k insns = set_map m.has_data (ltb (suc k) (length insns)) m.fd address k insns
 
-  abbrev pub find_map_lem : Option MapRow → ℕ → Option MapRow
-  find_map_lem (some m) section_index = some m
-  find_map_lem none section_index = by_section_lem section_index
+  abbrev pub find_map : Option MapRow → ℕ → Option MapRow
+  find_map (some m) section_index = some m
+  find_map none section_index = by_section section_index
 
   abbrev pub in_section : Option ℕ → Symbol → Relocation → ℕ → List Insn → Result (List Insn)
   in_section none sym rel k insns = ok insns
   in_section (some section_index) sym rel k insns =
-      cond (insn_is_call_lem (slot_at insns k) || object.text_sections section_index) (ok insns)
-      (with_map (find_map_lem (by_symbol_lem rel.symbol) section_index) sym.address k insns)
+      cond (insn_is_call (slot_at insns k) || object.text_sections section_index) (ok insns)
+      (with_map (find_map (symbol_hash rel.symbol) section_index) sym.address k insns)
 
   abbrev pub with_symbol : Option Symbol → Relocation → ℕ → List Insn → Result (List Insn)
   with_symbol none rel k insns = err unknown_symbol
@@ -160,16 +160,16 @@ module _ (object : Object) (by_section_lem by_symbol_lem : HashMap MapRow) where
       (cond (not (eqb ((rel.offset - fun.section_offset) % 8) 0)) (err invalid_relocation_offset)
       (with_symbol (object.symbol_table rel.symbol) rel ((rel.offset - fun.section_offset) / 8) insns))
 
-  unfoldable pub relocate_maps_lem : Function → List Relocation → List Insn → Result (List Insn)
-  relocate_maps_lem fun [] insns = ok insns
-  relocate_maps_lem fun (rel ∷ rels) insns = bind (relocate_map fun rel insns) (relocate_maps_lem fun rels)
+  unfoldable pub relocate_maps : Function → List Relocation → List Insn → Result (List Insn)
+  relocate_maps fun [] insns = ok insns
+  relocate_maps fun (rel ∷ rels) insns = bind (relocate_map fun rel insns) (relocate_maps fun rels)
 
   -- for function in self.functions.values_mut()
   unfoldable pub relocate_functions : List Function → Result (List Function)
   relocate_functions [] = ok []
   relocate_functions (fun ∷ funs) =
-      bind (relocate_maps_lem fun (object.values fun.section_index) fun.instructions)
-      (λ insns. bind (relocate_functions funs) (λ rest. ok (with_instructions_lem fun insns ∷ rest)))
+      bind (relocate_maps fun (object.values fun.section_index) fun.instructions)
+      (λ insns. bind (relocate_functions funs) (λ rest. ok (with_insns fun insns ∷ rest)))
 
 unfoldable pub object_relocate_maps : Object → List MapRow → Result (List Function)
 object_relocate_maps object maps = relocate_functions object (maps_by_section maps new) (maps_by_symbol maps new) object.functions
@@ -177,9 +177,9 @@ object_relocate_maps object maps = relocate_functions object (maps_by_section ma
 -- struct FunctionLinker: the program that grows, and `linked_functions`, BY ADDRESS
 pub record Linker : Type 0 where
   pub instructions : List Insn
-  pub func_info_lem : List FunctionRecord
+  pub func_info : List FunctionRecord
   pub func_num_info : ℕ
-  pub line_info_lem : List LineRecord
+  pub line_info : List LineRecord
   pub line_num_info : ℕ
   pub linked_functions : HashMap ℕ
 
@@ -207,19 +207,19 @@ line_count (l ∷ ls) old new = u32 (pos new)
 abbrev pub extend : Function → Linker → Linker
 extend fun program = record {
   instructions = program.instructions ++ fun.instructions;
-  func_info_lem = program.func_info_lem ++ map (func_at (length program.instructions)) fun.func_info_lem;
-  func_num_info = u32 (pos (length (program.func_info_lem ++ map (func_at (length program.instructions)) fun.func_info_lem)));
-  line_info_lem = program.line_info_lem ++ lines_at fun.line_info_lem (length program.instructions);
-  line_num_info = line_count fun.line_info_lem program.line_num_info (length (program.line_info_lem ++ lines_at fun.line_info_lem (length program.instructions)));
+  func_info = program.func_info ++ map (func_at (length program.instructions)) fun.func_info;
+  func_num_info = u32 (pos (length (program.func_info ++ map (func_at (length program.instructions)) fun.func_info)));
+  line_info = program.line_info ++ lines_at fun.line_info (length program.instructions);
+  line_num_info = line_count fun.line_info program.line_num_info (length (program.line_info ++ lines_at fun.line_info (length program.instructions)));
   linked_functions = insert fun.address (length program.instructions) program.linked_functions;
 }
 
 abbrev pub with_slot : ℕ → (Insn → Insn) → Linker → Linker
 with_slot ins-index rewrite program = record {
   instructions = at ins-index rewrite program.instructions;
-  func_info_lem = program.func_info_lem;
+  func_info = program.func_info;
   func_num_info = program.func_num_info;
-  line_info_lem = program.line_info_lem;
+  line_info = program.line_info;
   line_num_info = program.line_num_info;
   linked_functions = program.linked_functions;
 }
@@ -285,27 +285,27 @@ module _ (object : Object) where
   -- `ins`, the slot of the program
   unfoldable pub slot_of : Function → ℕ → Insn → Slot
   slot_of fun slot ins =
-      with_rel (object.relocations fun.section_index (add_u64 fun.section_offset (slot * 8))) (insn_is_call_lem ins) fun slot ins.immediate
+      with_rel (object.relocations fun.section_index (add_u64 fun.section_offset (slot * 8))) (insn_is_call ins) fun slot ins.immediate
 
   module _ (link_new : Function → Linker → Result Linker) where
     -- fn link_function, and the slot rewritten with what it returns
-    abbrev pub link_function_lem : Option ℕ → Function → (ℕ → Linker → Result Linker) → Linker → Result Linker
-    link_function_lem (some fun-ins-index) fun next program = next fun-ins-index program
-    link_function_lem none fun next program = bind (link_new fun program) (next (length program.instructions))
+    abbrev pub link_function : Option ℕ → Function → (ℕ → Linker → Result Linker) → Linker → Result Linker
+    link_function (some fun-ins-index) fun next program = next fun-ins-index program
+    link_function none fun next program = bind (link_new fun program) (next (length program.instructions))
 
     abbrev pub relocate_slot : Slot → Bool → ℕ → (Linker → Result Linker) → Linker → Result Linker
     relocate_slot continue is_call ins-index next program = next program
     relocate_slot panic is_call ins-index next program = panics
     relocate_slot unknown is_call ins-index next program = err unknown_function
     relocate_slot (callee fun) is_call ins-index next program =
-        link_function_lem (program.linked_functions fun.address) fun
+        link_function (program.linked_functions fun.address) fun
         (λ callee-ins-index after. next (with_slot ins-index (pointed is_call callee-ins-index ins-index) after)) program
 
     -- for ins_index in start_ins..start_ins + n_instructions: `count` of them left, from `slot` on
     unfoldable pub relocate_from : Function → ℕ → ℕ → ℕ → Linker → Result Linker
     relocate_from fun start-ins zero slot program = ok program
     relocate_from fun start-ins (suc count) slot program =
-        relocate_slot (slot_of fun slot (slot_at program.instructions (start-ins + slot))) (insn_is_call_lem (slot_at program.instructions (start-ins + slot)))
+        relocate_slot (slot_of fun slot (slot_at program.instructions (start-ins + slot))) (insn_is_call (slot_at program.instructions (start-ins + slot)))
         (start-ins + slot) (λ after. relocate_from fun start-ins count (suc slot) after) program
 
     -- fn relocate
@@ -320,9 +320,9 @@ module _ (object : Object) where
   abbrev pub clone : Function → Linker
   clone fun = record {
     instructions = fun.instructions;
-    func_info_lem = fun.func_info_lem;
+    func_info = fun.func_info;
     func_num_info = fun.func_num_info;
-    line_info_lem = fun.line_info_lem;
+    line_info = fun.line_info;
     line_num_info = fun.line_num_info;
     linked_functions = new;
   }

@@ -103,8 +103,8 @@ pub record SameImage (tables : Tables) (root : ℕ) (final : State) (o : Result 
   pub linker : Linker
   pub is_ok : o ≡ ok linker
   pub instructions : linker.instructions ≡ final.image
-  pub functions : linker.func_info_lem ≡ image_functions tables root final.placed
-  pub lines : linker.line_info_lem ≡ image_lines tables root final.placed
+  pub functions : linker.func_info ≡ image_functions tables root final.placed
+  pub lines : linker.line_info ≡ image_lines tables root final.placed
   pub func_num : linker.func_num_info ≡ length (image_functions tables root final.placed)
   pub line_num : linker.line_num_info ≡ length (image_lines tables root final.placed)
 

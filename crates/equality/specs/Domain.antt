@@ -28,9 +28,9 @@ module _ (tables : Tables) (hidden : Hidden) where
     section_index = (row_of tables row).home;
     section_offset = (row_of tables row).offset;
     instructions = run (insn_of tables row) 0 (row_of tables row).slots;
-    func_info_lem = function_records_of tables row;
+    func_info = function_records_of tables row;
     func_num_info = hidden.func_nums row;
-    line_info_lem = lines_of tables row;
+    line_info = lines_of tables row;
     line_num_info = hidden.line_nums row;
   }
 

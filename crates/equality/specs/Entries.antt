@@ -9,7 +9,7 @@ use Rattle.rules.specs.Rows.{Offered, tables_of, map_step_refusal, link_refusal}
 use Rattle.rules.specs.Entries.{MapResult, map_result, Outputs, room_in, LinkResult, refusal_reply, refused_link, map_entry, link_entry}
 use Rattle.equality.specs.Crate as Crate
 use Rattle.equality.specs.Crate.{Result, ok, err, Linker}
-use Rattle.equality.specs.Info.{insn_bytes, func_info_bytes_lem, line_info_bytes_lem}
+use Rattle.equality.specs.Info.{insn_bytes, crate_func_info_bytes, crate_line_info_bytes}
 use Rattle.equality.specs.Domain.{Hidden, crate_functions, Compared, cause_of}
 use Rattle.equality.specs.Demand2.{valid_tables, Except}
 
@@ -55,13 +55,13 @@ pub record SameBytes (order : Order) (lent : Outputs) (e : Entered) (o : Result 
   pub is_ok : o ≡ ok linker
   pub result : LinkResult
   pub is_went : e ≡ went result
-  pub places : result.reply ≡ reply 0 (length linker.instructions) (length linker.func_info_lem) (length linker.line_info_lem)
+  pub places : result.reply ≡ reply 0 (length linker.instructions) (length linker.func_info) (length linker.line_info)
   pub image : result.image ≡ padded lent.image (insn_bytes order linker.instructions)
-  pub func_info_lem : result.func_info ≡ padded lent.func_info (func_info_bytes_lem order linker.func_info_lem)
-  pub line_info_lem : result.line_info ≡ padded lent.line_info (line_info_bytes_lem order linker.line_info_lem)
+  pub func_info : result.func_info ≡ padded lent.func_info (crate_func_info_bytes order linker.func_info)
+  pub line_info : result.line_info ≡ padded lent.line_info (crate_line_info_bytes order linker.line_info)
   -- the crate's two `num_info` are the counts that the places say
-  pub func_num : linker.func_num_info ≡ length linker.func_info_lem
-  pub line_num : linker.line_num_info ≡ length linker.line_info_lem
+  pub func_num : linker.func_num_info ≡ length linker.func_info
+  pub line_num : linker.line_num_info ≡ length linker.line_info
 
 -- refused, by the one step or the other: the crate's error is of the same cause
 pub record SameCause (order : Order) (lent : Outputs) (e : Entered) (o : Result Linker) : Type 0 where

@@ -81,11 +81,11 @@ abbrev pub put_all : {A : Type 0} → (A → List ℕ) → List A → List ℕ
 put_all bytes_of [] = []
 put_all bytes_of (l ∷ ls) = bytes_of l ++ put_all bytes_of ls
 
-unfoldable pub func_info_bytes_lem : Order → List FunctionRecord → List ℕ
-func_info_bytes_lem host info = put_all (bytes_of_func host) info
+unfoldable pub crate_func_info_bytes : Order → List FunctionRecord → List ℕ
+crate_func_info_bytes host info = put_all (bytes_of_func host) info
 
-unfoldable pub line_info_bytes_lem : Order → List LineRecord → List ℕ
-line_info_bytes_lem host info = put_all (bytes_of_line host) info
+unfoldable pub crate_line_info_bytes : Order → List LineRecord → List ℕ
+crate_line_info_bytes host info = put_all (bytes_of_line host) info
 
 -- struct bpf_insn { code; dst_reg : 4, src_reg : 4; off; imm }: a host's compiler gives the first bit field the low bits if it is little-endian,
 -- else the high ones

@@ -9,7 +9,7 @@ use Rattle.rules.specs.Tables.{FunctionRecord, LineRecord}
 use Rattle.rules.specs.Rows.{row_size, rows_of, func_info_row, line_info_row}
 use Rattle.rules.specs.Readers.{Info, Read, read_records}
 use Rattle.equality.specs.Crate.{Result, ok}
-use Rattle.equality.specs.Info.{SecInfo, parse_func, parse_line, func_info_bytes_lem, line_info_bytes_lem}
+use Rattle.equality.specs.Info.{SecInfo, parse_func, parse_line, crate_func_info_bytes, crate_line_info_bytes}
 
 -- function records and line records
 pub data Records : Type 0 where
@@ -29,8 +29,8 @@ crate_reads func endianness info = parse_func info.count info.size info.bytes en
 crate_reads line endianness info = parse_line info.count info.size info.bytes endianness
 
 abbrev pub crate_bytes : (t : Records) → Order → List (RecordOf t) → List ℕ
-crate_bytes func host records = func_info_bytes_lem host records
-crate_bytes line host records = line_info_bytes_lem host records
+crate_bytes func host records = crate_func_info_bytes host records
+crate_bytes line host records = crate_line_info_bytes host records
 
 -- bytes as table 7 or 8, read as `tables_of` reads it
 abbrev pub read_table : (t : Records) → Order → List ℕ → List (RecordOf t)
@@ -39,7 +39,7 @@ read_table line order bytes = rows_of LineInfo (line_info_row order bytes) bytes
 
 -- the domain's clauses, by name
 pub data ReaderClause : Type 0 where
-  record_size whole_data on_grid_lem has_room : ReaderClause
+  record_size whole_data on_the_grid has_room : ReaderClause
 
 -- "14 if the size is below 8 (function) or 16 (line)"
 abbrev pub least_size : Records → ℕ
@@ -51,7 +51,7 @@ ReaderHolds record_size t order info room = least_size t ≤ info.size
 -- "count × size differs from the data length"
 ReaderHolds whole_data t order info room = info.count * info.size ≡ length info.bytes
 -- "or a byte offset is not a multiple of 8"
-ReaderHolds on_grid_lem t order info room = (k : ℕ) → k < info.count → u32_at order info.bytes (info.size * k) % 8 ≡ 0
+ReaderHolds on_the_grid t order info room = (k : ℕ) → k < info.count → u32_at order info.bytes (info.size * k) % 8 ≡ 0
 -- "11 if it is too short": the crate allocates
 ReaderHolds has_room t order info room = info.count * row_size (table_of t) ≤ room
 

@@ -21,7 +21,7 @@ use Rattle.rules.specs.Examine.{Shown, shown, claim_of, slot_wrong, slots_wrong,
 use Rattle.rules.specs.Examine as examine
 use Rattle.rules.proofs.Passed.{few_rows}
 use Rattle.rules.proofs.Writing.{decoded_length}
-use Rattle.rules.proofs.Refusing.{link_checked_lem}
+use Rattle.rules.proofs.Refusing.{link_checked}
 use Rattle.resolve.proofs.Laws.{only_code, meaning_alike, checked_alike}
 use Rattle.merge.specs.declared.Used.{Used}
 use Rattle.merge.specs.Merge.{Sums, Parts, PartBegins}
@@ -80,14 +80,14 @@ module _ {o : Offered} {s : Shown} {k funcs lines : ℕ} (p : Pieced o s k funcs
   checked = p.list.sizes.checked
 
   pub in_list : piece_size * k + piece_size ≤ length s.pieces
-  in_list = omega (arith, p.is_piece_lem)
+  in_list = omega (arith, p.is_piece)
 
   pub few_pieces : k < most_image_slots
-  few_pieces = omega (arith, p.is_piece_lem, (fits p.list).pieces.few)
+  few_pieces = omega (arith, p.is_piece, (fits p.list).pieces.few)
 
   module _ {row : ℕ} (is : row ≡ piece_row s.pieces k) where
     pub row_in : row < whole_rows Functions o.functions
-    row_in = rw is ((tiles p.list).rows k p.is_piece_lem)
+    row_in = rw is ((tiles p.list).rows k p.is_piece)
 
     parts : Parts o row
     parts = checked_parts o row checked row_in
@@ -100,7 +100,7 @@ module _ {o : Offered} {s : Shown} {k funcs lines : ℕ} (p : Pieced o s k funcs
 
     module _ {start : ℕ} (at : start ≡ piece_start s.pieces k) where
       inside : start + function_slots o.functions row ≤ length s.image / 8
-      inside = rw (is, at) ((tiles p.list).inside k p.is_piece_lem)
+      inside = rw (is, at) ((tiles p.list).inside k p.is_piece)
 
       pub visits : {first : ℕ} → first ≡ summed (function_slots o.functions) 0 row → Visits (only_code o) s.image s.pieces row start first
       visits e = record {
@@ -229,7 +229,7 @@ module _ (o : Offered) (s : Shown) where
     pub piece_right : Pieced o s k funcs lines → wrong_in (tables_of little o) (claim_of little s) k funcs lines (piece_at s.pieces k) ≡ none
         → Left k funcs lines ≡ Left (k + 1) (funcs + function_func_info o.functions (piece_row s.pieces k)) (lines + function_line_info o.functions (piece_row s.pieces k))
     piece_right p e =
-        opened p.is_piece_lem ∙ or_second after e
+        opened p.is_piece ∙ or_second after e
         ∙ ap (λ n. pieces_wrong (tables_of little o) (claim_of little s) (suc k) (funcs + n) (lines + length (lines_of (tables_of little o) (piece_row s.pieces k))) (run (piece_at s.pieces) (suc k) (listed s.pieces - (k + 1)))) (funcs_many p refl)
         ∙ ap (λ n. pieces_wrong (tables_of little o) (claim_of little s) (suc k) (funcs + function_func_info o.functions (piece_row s.pieces k)) (lines + n) (run (piece_at s.pieces) (suc k) (listed s.pieces - (k + 1)))) (lines_many p refl)
         ∙ ap (λ m. pieces_wrong (tables_of little o) (claim_of little s) m (funcs + function_func_info o.functions (piece_row s.pieces k)) (lines + function_line_info o.functions (piece_row s.pieces k)) (run (piece_at s.pieces) m (listed s.pieces - (k + 1)))) (sym (add-one k))
@@ -309,7 +309,7 @@ module _ (o : Offered) (root : ℕ) (s : Shown) where
 
     module _ (fits_all : sizes_wrong s ≡ none) where
       pub sized : Sized o s
-      sized = record { checked = link_checked_lem o root passed; sized = fits_all }
+      sized = record { checked = link_checked o root passed; sized = fits_all }
 
       pub judged : {x : Option Reply} → claim_wrong (tables_of little o) (claim_of little s) root ≡ x → examine_entry little o root s ≡ verdict (length s.pieces / piece_size) x
       judged e = rest ∙ ap (verdict (length s.pieces / piece_size)) (or_second (claim_wrong (tables_of little o) (claim_of little s) root) fits_all ∙ e)

@@ -22,6 +22,6 @@ pub record Listed (o : Offered) (s : Shown) : Type 0 where
 -- piece k, with so many records before its own, all of which stand in the image
 pub record Pieced (o : Offered) (s : Shown) (k funcs lines : ℕ) : Type 0 where
   pub list : Listed o s
-  pub is_piece_lem : k < listed s.pieces
+  pub is_piece : k < listed s.pieces
   pub funcs_low : funcs ≤ whole_rows FuncInfo s.func_info
   pub lines_low : lines ≤ whole_rows LineInfo s.line_info

@@ -1,8 +1,9 @@
 // An image from elsewhere, examined (document 02, W1): yes, or the first thing that is wrong, in the order of `rules`.
+#![tactic(auto)]
 ghost use Rattle.std.specs.Prelude.{◌≡◌};
 ghost use Rattle.rules.specs.Bytes.{little};
 ghost use Rattle.rules.specs.Answers.{refusal_in, reply_of};
-ghost use Rattle.rules.specs.Lent.{was, offered, lent, offered_shown, lent_shown};
+ghost use Rattle.rules.specs.Lent.{offered, lent, offered_shown, lent_shown};
 ghost use Rattle.rules.specs.Rows.{tables_of};
 ghost use Rattle.rules.specs.Pieces.{piece_at, pieces_of};
 ghost use Rattle.rules.specs.Examine.{claim_of, wrong_in, pieces_wrong, claim_wrong, examine_refusal, examine_entry};
@@ -43,18 +44,18 @@ fn check_piece(
     lines: u32,
 ) -> Judgement
     requires { Pieced
-        (offered code symbols functions relocations instructions func_info line_info)
-        (offered_shown image image_func_info image_line_info pieces)
+        (offered code.now symbols.now functions.now relocations.now instructions.now func_info.now line_info.now)
+        (offered_shown image.now image_func_info.now image_line_info.now pieces.now)
         k
         funcs
         lines }
     ensures { refusal_in result ≡ wrong_in
-        (tables_of little (lent code symbols functions relocations instructions func_info line_info))
-        (claim_of little (lent_shown image image_func_info image_line_info pieces))
+        (tables_of little (lent code.now symbols.now functions.now relocations.now instructions.now func_info.now line_info.now))
+        (claim_of little (lent_shown image.now image_func_info.now image_line_info.now pieces.now))
         k
         funcs
         lines
-        (piece_at (was pieces) k) }
+        (piece_at pieces.now k) }
 {
     let row = piece_row(pieces, k) as usize;
     let start = piece_start(pieces, k);
@@ -105,15 +106,15 @@ fn check_pieces(
     pieces: &[u8],
 ) -> Judgement
     requires { Listed
-        (offered code symbols functions relocations instructions func_info line_info)
-        (offered_shown image image_func_info image_line_info pieces) }
+        (offered code.now symbols.now functions.now relocations.now instructions.now func_info.now line_info.now)
+        (offered_shown image.now image_func_info.now image_line_info.now pieces.now) }
     ensures { refusal_in result ≡ pieces_wrong
-        (tables_of little (lent code symbols functions relocations instructions func_info line_info))
-        (claim_of little (lent_shown image image_func_info image_line_info pieces))
+        (tables_of little (lent code.now symbols.now functions.now relocations.now instructions.now func_info.now line_info.now))
+        (claim_of little (lent_shown image.now image_func_info.now image_line_info.now pieces.now))
         0
         0
         0
-        (pieces_of (was pieces)) }
+        (pieces_of pieces.now) }
 {
     let n = pieces.len() / PIECE_SIZE;
     let mut funcs: u32 = 0;
@@ -163,11 +164,11 @@ fn check_claim(
     pieces: &[u8],
 ) -> Judgement
     requires { Sized
-        (offered code symbols functions relocations instructions func_info line_info)
-        (offered_shown image image_func_info image_line_info pieces) }
+        (offered code.now symbols.now functions.now relocations.now instructions.now func_info.now line_info.now)
+        (offered_shown image.now image_func_info.now image_line_info.now pieces.now) }
     ensures { refusal_in result ≡ claim_wrong
-        (tables_of little (lent code symbols functions relocations instructions func_info line_info))
-        (claim_of little (lent_shown image image_func_info image_line_info pieces))
+        (tables_of little (lent code.now symbols.now functions.now relocations.now instructions.now func_info.now line_info.now))
+        (claim_of little (lent_shown image.now image_func_info.now image_line_info.now pieces.now))
         root }
 {
     let first = check_root(pieces, root);
@@ -211,9 +212,9 @@ pub fn examine(
 ) -> Answer
     ensures { reply_of result ≡ examine_entry
         little
-        (lent code symbols functions relocations instructions func_info line_info)
+        (lent code.now symbols.now functions.now relocations.now instructions.now func_info.now line_info.now)
         root
-        (lent_shown image image_func_info image_line_info pieces) }
+        (lent_shown image.now image_func_info.now image_line_info.now pieces.now) }
 {
     let checked = check_link(
         code,

@@ -3,7 +3,6 @@ ghost use Rattle.std.specs.Prelude.{◌≡◌, [], ◌+◌, ◌*◌, ◌≤◌, 
 ghost use Rattle.rules.specs.declared.Table.TheVariants.{FuncInfo, LineInfo};
 ghost use Rattle.rules.specs.Bytes.{little};
 ghost use Rattle.rules.specs.Answers.{refusal_in};
-ghost use Rattle.rules.specs.Lent.{was};
 ghost use Rattle.rules.specs.Rows.{row_size, link_offer, tables_of, func_info_row, line_info_row};
 ghost use Rattle.merge.specs.Merge.{stray_in};
 ghost use Rattle.rules.specs.Examine.{same_function_record, same_line_record, first_wrong, shown, claim_of, over_wrong};
@@ -22,7 +21,7 @@ use tables::limits::table_number;
 // The slot that function record i should have in a piece: the first piece's is its own.
 fn func_slot(func_info: &[u8], i: usize, k: u32, start: Slot) -> u32
     requires { row_size FuncInfo * i + row_size FuncInfo ≤ length func_info.now }
-    ensures { result ≡ (func_of k start.0 (func_info_row little (was func_info) i)).slot }
+    ensures { result ≡ (func_of k start.0 (func_info_row little func_info.now i)).slot }
 {
     if k == 0 { // the root's rule
         return func_info_slot(func_info, i);
@@ -34,7 +33,7 @@ fn func_slot(func_info: &[u8], i: usize, k: u32, start: Slot) -> u32
 fn same_func(func_info: &[u8], i: usize, shown: &[u8], j: usize, k: u32, start: Slot) -> bool
     requires { (row_size FuncInfo * i + row_size FuncInfo ≤ length func_info.now)
         × (row_size FuncInfo * j + row_size FuncInfo ≤ length shown.now) }
-    ensures { result ≡ same_function_record (func_info_row little (was shown) j) (func_of k start.0 (func_info_row little (was func_info) i)) }
+    ensures { result ≡ same_function_record (func_info_row little shown.now j) (func_of k start.0 (func_info_row little func_info.now i)) }
 {
     if func_info_slot(shown, j) != func_slot(func_info, i, k, start) {
         return false;
@@ -53,7 +52,7 @@ fn check_funcs(
     start: Slot,
 ) -> Judgement
     requires { Funcs func_info.now first count at }
-    ensures { refusal_in result ≡ first_wrong (func_wrong (was func_info) first (was shown) at k start.0) 0 count }
+    ensures { refusal_in result ≡ first_wrong (func_wrong func_info.now first shown.now at k start.0) 0 count }
 {
     let n = shown.len() / FUNC_INFO_SIZE;
     let mut j: u32 = 0;
@@ -75,7 +74,7 @@ fn check_funcs(
 fn line_slot(line_info: &[u8], i: usize, k: u32, origin: u32, start: Slot) -> u32
     requires { (row_size LineInfo * i + row_size LineInfo ≤ length line_info.now)
         × Movable k origin start.0 (line_info_row little line_info.now i) }
-    ensures { result ≡ (line_of k origin start.0 (line_info_row little (was line_info) i)).slot }
+    ensures { result ≡ (line_of k origin start.0 (line_info_row little line_info.now i)).slot }
 {
     let slot = line_info_slot(line_info, i);
     if k == 0 {
@@ -97,7 +96,7 @@ fn same_line(
     requires { (row_size LineInfo * i + row_size LineInfo ≤ length line_info.now)
         × ((row_size LineInfo * j + row_size LineInfo ≤ length shown.now)
         × Movable k origin start.0 (line_info_row little line_info.now i)) }
-    ensures { result ≡ same_line_record (line_info_row little (was shown) j) (line_of k origin start.0 (line_info_row little (was line_info) i)) }
+    ensures { result ≡ same_line_record (line_info_row little shown.now j) (line_of k origin start.0 (line_info_row little line_info.now i)) }
 {
     if line_info_slot(shown, j) != line_slot(line_info, i, k, origin, start) {
         return false;
@@ -122,7 +121,7 @@ fn check_lines(
     start: Slot,
 ) -> Judgement
     requires { Lines line_info.now first count at k start.0 }
-    ensures { refusal_in result ≡ first_wrong (line_wrong (was line_info) first (was shown) at k start.0) 0 count }
+    ensures { refusal_in result ≡ first_wrong (line_wrong line_info.now first shown.now at k start.0) 0 count }
 {
     if count == 0 {
         return Judgement::Passes;
@@ -155,7 +154,7 @@ fn check_lines(
 // The link's own 12, for every piece but the first.
 fn check_stray(functions: &[u8], line_info: &[u8], row: usize, first: u32, k: u32) -> Judgement
     requires { Strays functions.now line_info.now row first }
-    ensures { refusal_in result ≡ stray_of k row (stray_in (was functions) (was line_info) row) }
+    ensures { refusal_in result ≡ stray_of k row (stray_in functions.now line_info.now row) }
 {
     if k == 0 {
         return Judgement::Passes;
@@ -182,7 +181,7 @@ pub fn check_records(
     lines: u32,
 ) -> Judgement
     requires { Recorded functions.now func_info.now line_info.now row start.0 part funcs lines }
-    ensures { refusal_in result ≡ records_wrong (was functions) (was func_info) (was line_info) (was image_func_info) (was image_line_info)
+    ensures { refusal_in result ≡ records_wrong functions.now func_info.now line_info.now image_func_info.now image_line_info.now
         k row start.0 part funcs lines }
 {
     let judged = check_funcs(
@@ -221,7 +220,7 @@ pub fn check_over(
 ) -> Judgement
     ensures { refusal_in result ≡ over_wrong
         (tables_of little (link_offer [] [] [] [] [] [] []))
-        (claim_of little (shown [] (was image_func_info) (was image_line_info) []))
+        (claim_of little (shown [] image_func_info.now image_line_info.now []))
         funcs
         lines }
 {

@@ -1,7 +1,7 @@
 // The sizes of what is shown (33, 34): whole rows, and no more than an image holds.
 ghost use Rattle.std.specs.Prelude.{◌≡◌, ◌*◌, ◌<◌};
 ghost use Rattle.rules.specs.Answers.{refusal_in};
-ghost use Rattle.rules.specs.Lent.{was, lent_shown};
+ghost use Rattle.rules.specs.Lent.{lent_shown};
 ghost use Rattle.rules.specs.Rows.{or_else};
 ghost use Rattle.rules.specs.Examine.{size_wrong, sizes_wrong};
 
@@ -19,7 +19,7 @@ pub const LIST_NUMBER: u32 = 9;
 // One size, else what the later ones say.
 pub fn or_size(number: u32, size: usize, most: usize, t: &[u8], later: Judgement) -> Judgement
     requires { (0 < size) × (size * most < 0x1_0000_0000) }
-    ensures { refusal_in result ≡ or_else (size_wrong number size most (was t)) (refusal_in later) }
+    ensures { refusal_in result ≡ or_else (size_wrong number size most t.now) (refusal_in later) }
 {
     let n = t.len();
     if n > size * most {
@@ -37,7 +37,7 @@ pub fn check_sizes(
     image_line_info: &[u8],
     pieces: &[u8],
 ) -> Judgement
-    ensures { refusal_in result ≡ sizes_wrong (lent_shown image image_func_info image_line_info pieces) }
+    ensures { refusal_in result ≡ sizes_wrong (lent_shown image.now image_func_info.now image_line_info.now pieces.now) }
 {
     let sized = or_size(
         LIST_NUMBER,

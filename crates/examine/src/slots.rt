@@ -5,7 +5,7 @@ ghost use Rattle.rules.specs.Answers.{refusal_in};
 ghost use Rattle.rules.specs.Object as object;
 ghost use Rattle.rules.specs.Faithful.{piece};
 ghost use Rattle.rules.specs.Tables.{object_of};
-ghost use Rattle.rules.specs.Lent.{was, offered_code, lent_code};
+ghost use Rattle.rules.specs.Lent.{offered_code, lent_code};
 ghost use Rattle.rules.specs.Rows.{tables_of};
 ghost use Rattle.rules.specs.Pieces.{pieces_of};
 ghost use Rattle.rules.specs.Examine.{same_form, same_head, same_slot, shown, claim_of, slots_wrong};
@@ -28,7 +28,7 @@ use wire::{u16_at, u32_at, u64_at};
 // All that a reference may not change.
 fn same_form(a: &[u8], i: Slot, b: &[u8], j: Slot) -> bool
     requires { Slots a.now i.0 b.now j.0 }
-    ensures { result ≡ same_form (slot_in little (was a) i.0) (slot_in little (was b) j.0) }
+    ensures { result ≡ same_form (slot_in little a.now i.0) (slot_in little b.now j.0) }
 {
     if opcode(a, i) != opcode(b, j) {
         return false;
@@ -42,7 +42,7 @@ fn same_form(a: &[u8], i: Slot, b: &[u8], j: Slot) -> bool
 // All that a call may not change: one word.
 fn same_head(a: &[u8], i: Slot, b: &[u8], j: Slot) -> bool
     requires { Slots a.now i.0 b.now j.0 }
-    ensures { result ≡ same_head (slot_in little (was a) i.0) (slot_in little (was b) j.0) }
+    ensures { result ≡ same_head (slot_in little a.now i.0) (slot_in little b.now j.0) }
 {
     u32_at(a, start_of(i)) == u32_at(b, start_of(j))
 }
@@ -50,7 +50,7 @@ fn same_head(a: &[u8], i: Slot, b: &[u8], j: Slot) -> bool
 // The eight bytes: one word.
 fn same_slot(a: &[u8], i: Slot, b: &[u8], j: Slot) -> bool
     requires { Slots a.now i.0 b.now j.0 }
-    ensures { result ≡ same_slot (slot_in little (was a) i.0) (slot_in little (was b) j.0) }
+    ensures { result ≡ same_slot (slot_in little a.now i.0) (slot_in little b.now j.0) }
 {
     u64_at(a, start_of(i)) == u64_at(b, start_of(j))
 }
@@ -65,7 +65,7 @@ fn check_target(
     callee: u32,
 ) -> Judgement
     requires { (slot_size * here.0 + slot_size ≤ length image.now) × StartsRise pieces.now }
-    ensures { refusal_in result ≡ target_wrong (pieces_of (was pieces)) k slot.0 here.0 (slot_in little (was image) here.0) callee }
+    ensures { refusal_in result ≡ target_wrong (pieces_of pieces.now) k slot.0 here.0 (slot_in little image.now here.0) callee }
 {
     let target = ahead(here, 1, immediate(image, here));
     if starts_at(pieces, target, callee) {
@@ -86,8 +86,8 @@ fn check_call(
     callee: u32,
 ) -> Judgement
     requires { Compares image.now here.0 instructions.now at.0 pieces.now }
-    ensures { refusal_in result ≡ call_wrong (pieces_of (was pieces)) k slot.0 here.0 (slot_in little (was instructions) at.0)
-        (slot_in little (was image) here.0) callee }
+    ensures { refusal_in result ≡ call_wrong (pieces_of pieces.now) k slot.0 here.0 (slot_in little instructions.now at.0)
+        (slot_in little image.now here.0) callee }
 {
     if same_head(image, here, instructions, at) {
         return check_target(image, here, pieces, k, slot, callee);
@@ -106,8 +106,8 @@ fn check_reference(
     callee: u32,
 ) -> Judgement
     requires { Compares image.now here.0 instructions.now at.0 pieces.now }
-    ensures { refusal_in result ≡ reference_wrong (pieces_of (was pieces)) k slot.0 here.0 (slot_in little (was instructions) at.0)
-        (slot_in little (was image) here.0) callee }
+    ensures { refusal_in result ≡ reference_wrong (pieces_of pieces.now) k slot.0 here.0 (slot_in little instructions.now at.0)
+        (slot_in little image.now here.0) callee }
 {
     if !same_form(image, here, instructions, at) {
         return Judgement::Refused(finding(Cause::SlotChanged, k, slot.0, here.0));
@@ -130,8 +130,8 @@ fn check_slot(
     meaning: Meaning,
 ) -> Judgement
     requires { Compares image.now here.0 instructions.now at.0 pieces.now × Callable meaning }
-    ensures { refusal_in result ≡ meant_wrong (pieces_of (was pieces)) k slot.0 here.0 (slot_in little (was instructions) at.0)
-        (slot_in little (was image) here.0) meaning }
+    ensures { refusal_in result ≡ meant_wrong (pieces_of pieces.now) k slot.0 here.0 (slot_in little instructions.now at.0)
+        (slot_in little image.now here.0) meaning }
 {
     match meaning {
         Meaning::Copied => {
@@ -156,7 +156,7 @@ fn check_slot(
 // No relocation, and no call's opcode.
 fn is_plain(instructions: &[u8], at: Slot, rel: Found) -> bool
     requires { slot_size * at.0 + slot_size ≤ length instructions.now }
-    ensures { result ≡ is_plain rel (slot_in little (was instructions) at.0) }
+    ensures { result ≡ is_plain rel (slot_in little instructions.now at.0) }
 {
     match rel {
         Found::Nothing => opcode(instructions, at) != 0x85,
@@ -176,9 +176,9 @@ fn meaning_of(
     slot: Slot,
     rel: Found,
 ) -> Meaning
-    requires { Resolves (offered_code code symbols functions relocations instructions) row first.0 slot.0 rel }
+    requires { Resolves (offered_code code.now symbols.now functions.now relocations.now instructions.now) row first.0 slot.0 rel }
     ensures { Means row slot.0 result
-        (object.meaning (object_of (tables_of little (lent_code code symbols functions relocations instructions))) row slot.0) }
+        (object.meaning (object_of (tables_of little (lent_code code.now symbols.now functions.now relocations.now instructions.now))) row slot.0) }
 {
     if is_plain(instructions, after(first, slot), rel) {
         return Meaning::Copied;
@@ -211,15 +211,15 @@ pub fn check_slots(
     first: Slot,
 ) -> Judgement
     requires { Visits
-        (offered_code code symbols functions relocations instructions)
+        (offered_code code.now symbols.now functions.now relocations.now instructions.now)
         image.now
         pieces.now
         row
         start.0
         first.0 }
     ensures { refusal_in result ≡ slots_wrong
-        (tables_of little (lent_code code symbols functions relocations instructions))
-        (claim_of little (shown (was image) [] [] (was pieces)))
+        (tables_of little (lent_code code.now symbols.now functions.now relocations.now instructions.now))
+        (claim_of little (shown image.now [] [] pieces.now))
         k
         (piece row start.0) }
 {

@@ -1,7 +1,7 @@
 -- What a reader is given, and the parts of what it asks and promises, by name.
 -- Assumes nothing.
 use Rattle.std.specs.Prelude.{◌≡◌, true, List, [], ℕ, ◌+◌, ◌*◌, ◌≤◌, length}
-use Rattle.rules.specs.Lent.{Bytes}
+use Rattle.std.specs.Borrow.{Bor}
 use Rattle.rules.specs.declared.Answer.{Answer}
 use Rattle.rules.specs.declared.Table.{Table}
 use Rattle.rules.specs.Bytes.{little, padded}
@@ -26,6 +26,6 @@ pub record Ready (row size count : ℕ) (bytes output : List ℕ) : Type 0 where
 
 -- "record k, tail included, is given back as the part of the caller's data where it stands": its bytes, and its place in memory. An
 -- empty part may stand anywhere
-pub record GivenBack (table : Table) (info : Info) (k : ℕ) (lent part : Bytes) : Type 0 where
+pub record GivenBack (table : Table) (info : Info) (k : ℕ) (lent part : Bor (List ℕ)) : Type 0 where
   pub bytes : part.now ≡ record_part little table info k
-  pub stands : has_record little table info k ≡ true → part.ptr ≡ (lent.ptr.0, lent.ptr.1 + info.size * k)
+  pub stands : has_record little table info k ≡ true → part.ref_ptr ≡ (lent.ref_ptr.0, lent.ref_ptr.1 + info.size * k)

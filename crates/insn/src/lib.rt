@@ -1,7 +1,7 @@
 // Instruction slots: where they are, where they lead, and their fields, read and stored in place.
+#![tactic(auto)]
 ghost use Rattle.std.specs.Prelude.{◌≡◌, ◌+◌, ◌*◌, ◌%◌, ◌≤◌, ◌<◌, ◌^◌, eqb, pos, ◌+ℤ◌, length};
 ghost use Rattle.rules.specs.Bytes.{little, slot_in, slot_size, immediate_stored, source_stored};
-ghost use Rattle.rules.specs.Lent.{was};
 ghost use Rattle.rules.specs.Object.{is_call, is_blank};
 ghost use Rattle.rules.specs.Object as object;
 ghost use Rattle.insn.specs.Slots.{offset_of, slot_of};
@@ -111,7 +111,7 @@ pub fn start_of(slot: Slot) -> usize
 
 pub fn opcode(code: &[u8], slot: Slot) -> u8
     requires { slot_size * slot.0 + slot_size ≤ length code.now }
-    ensures { result ≡ (slot_in little (was code) slot.0).opcode }
+    ensures { result ≡ (slot_in little code.now slot.0).opcode }
 {
     let at = start_of(slot);
     code[at]
@@ -119,7 +119,7 @@ pub fn opcode(code: &[u8], slot: Slot) -> u8
 
 pub fn destination(code: &[u8], slot: Slot) -> u8
     requires { slot_size * slot.0 + slot_size ≤ length code.now }
-    ensures { result ≡ (slot_in little (was code) slot.0).destination }
+    ensures { result ≡ (slot_in little code.now slot.0).destination }
 {
     let at = start_of(slot);
     code[at + 1] % 16
@@ -127,7 +127,7 @@ pub fn destination(code: &[u8], slot: Slot) -> u8
 
 pub fn source(code: &[u8], slot: Slot) -> u8
     requires { slot_size * slot.0 + slot_size ≤ length code.now }
-    ensures { result ≡ (slot_in little (was code) slot.0).source }
+    ensures { result ≡ (slot_in little code.now slot.0).source }
 {
     let at = start_of(slot);
     code[at + 1] / 16
@@ -135,14 +135,14 @@ pub fn source(code: &[u8], slot: Slot) -> u8
 
 pub fn offset(code: &[u8], slot: Slot) -> i16
     requires { slot_size * slot.0 + slot_size ≤ length code.now }
-    ensures { result ≡ (slot_in little (was code) slot.0).offset }
+    ensures { result ≡ (slot_in little code.now slot.0).offset }
 {
     i16_at(code, start_of(slot) + 2)
 }
 
 pub fn immediate(code: &[u8], slot: Slot) -> i32
     requires { slot_size * slot.0 + slot_size ≤ length code.now }
-    ensures { result ≡ (slot_in little (was code) slot.0).immediate }
+    ensures { result ≡ (slot_in little code.now slot.0).immediate }
 {
     i32_at(code, start_of(slot) + 4)
 }
@@ -150,21 +150,21 @@ pub fn immediate(code: &[u8], slot: Slot) -> i32
 // Opcode 85 hex, register byte 10 hex, offset 0: one word.
 pub fn insn_is_call(code: &[u8], slot: Slot) -> bool
     requires { slot_size * slot.0 + slot_size ≤ length code.now }
-    ensures { result ≡ is_call (slot_in little (was code) slot.0) }
+    ensures { result ≡ is_call (slot_in little code.now slot.0) }
 {
     u32_at(code, start_of(slot)) == 0x1085
 }
 
 pub fn is_blank(code: &[u8], slot: Slot) -> bool
     requires { slot_size * slot.0 + slot_size ≤ length code.now }
-    ensures { result ≡ is_blank (slot_in little (was code) slot.0) }
+    ensures { result ≡ is_blank (slot_in little code.now slot.0) }
 {
     u32_at(code, start_of(slot)) == 0
 }
 
 pub fn is_wide_load(code: &[u8], slot: Slot, end: Slot) -> bool
     requires { (slot.0 < end.0) × (slot_size * end.0 ≤ length code.now) }
-    ensures { result ≡ wide_load_in (was code) slot.0 end.0 }
+    ensures { result ≡ wide_load_in code.now slot.0 end.0 }
 {
     if opcode(code, slot) != 0x18 {
         return false;
@@ -178,14 +178,14 @@ pub fn is_wide_load(code: &[u8], slot: Slot, end: Slot) -> bool
 
 pub fn set_immediate(code: &mut [u8], slot: Slot, imm: i32)
     requires { slot_size * slot.0 + slot_size ≤ length code.old }
-    ensures { code.new ≡ immediate_stored little (was code) slot.0 imm }
+    ensures { code.new ≡ immediate_stored little code.old slot.0 imm }
 {
     put_i32(code, start_of(slot) + 4, imm);
 }
 
 pub fn set_source(code: &mut [u8], slot: Slot, r: u8)
     requires { (slot_size * slot.0 + slot_size ≤ length code.old) × (r < 16) }
-    ensures { code.new ≡ source_stored little r (was code) slot.0 }
+    ensures { code.new ≡ source_stored little r code.old slot.0 }
 {
     let at = start_of(slot) + 1;
     code[at] = code[at] % 16 + 16 * r;

@@ -119,26 +119,26 @@ module _ (code symbols maps : List ℕ) (s symbol : ℕ) (site : Site) where
     section_is : or_none (symbol_section symbols s) ≡ some home
     section_is = rw (← home-is) (ap (λ b. cond b none (some home)) (ne_eqb home none_number named))
 
-    by_section_lem : (tables : Tables) (skips : Bool) → (site.call || is_code_section code home) ≡ skips → row_verdict code symbols maps s symbol site tables
+    by_section : (tables : Tables) (skips : Bool) → (site.call || is_code_section code home) ≡ skips → row_verdict code symbols maps s symbol site tables
         ≡ cond skips step.skipped
         (by_kind tables (kind_of (symbol_kind symbols s)) (read_row (map_row maps) (map_found maps symbol home)) site.wide (site.imm +ℤ pos (symbol_address symbols s)))
-    by_section_lem tables skips e =
+    by_section tables skips e =
         ap (home_verdict code symbols maps s symbol site tables) section_is
         ∙ ap (λ b. cond b step.skipped (by_kind tables (kind_of (symbol_kind symbols s)) (read_row (map_row maps) (map_found maps symbol home)) site.wide (site.imm +ℤ pos (symbol_address symbols s)))) e
 
     pub call_says : site.call ≡ true → Says site (row_verdict code symbols maps s symbol site) Skipped
-    call_says e = record { says = λ tables. sym (by_section_lem tables true (ap (λ b. b || is_code_section code home) e)); places = tt }
+    call_says e = record { says = λ tables. sym (by_section tables true (ap (λ b. b || is_code_section code home) e)); places = tt }
 
     -- not a call
     module _ (no_call : site.call ≡ false) where
       pub code_says : is_code_section code home ≡ true → Says site (row_verdict code symbols maps s symbol site) Skipped
-      code_says e = record { says = λ tables. sym (by_section_lem tables true (ap (λ b. b || is_code_section code home) no_call ∙ e)); places = tt }
+      code_says e = record { says = λ tables. sym (by_section tables true (ap (λ b. b || is_code_section code home) no_call ∙ e)); places = tt }
 
       -- nor code
       module _ (no_code : is_code_section code home ≡ false) where
         judged : (tables : Tables) → row_verdict code symbols maps s symbol site tables
             ≡ by_kind tables (kind_of (symbol_kind symbols s)) (read_row (map_row maps) (map_found maps symbol home)) site.wide (site.imm +ℤ pos (symbol_address symbols s))
-        judged tables = by_section_lem tables false (ap (λ b. b || is_code_section code home) no_call ∙ no_code)
+        judged tables = by_section tables false (ap (λ b. b || is_code_section code home) no_call ∙ no_code)
 
         pub text_says : symbol_kind symbols s ≡ text_kind → (r : Verdict) → Says site (refused_for SectionNotFound) r → Says site (row_verdict code symbols maps s symbol site) r
         text_says e =

@@ -1,10 +1,11 @@
 // One relocation tried in one function: skipped, refused, or how its slot is to be rewritten.
+#![tactic(auto)]
 ghost use Rattle.std.specs.Prelude.{◌≡◌, ◌<◌, ◌^◌};
 ghost use Rattle.rules.specs.declared.Table.TheVariants.{Symbols, Maps};
 ghost use Rattle.rules.specs.Rows.{whole_rows};
 ghost use Rattle.rules.specs.Lookups.{Sound, found_of};
 ghost use Rattle.rules.specs.Maps.{fits32};
-ghost use Rattle.rules.specs.Lent.{was, offered_maps, lent_maps};
+ghost use Rattle.rules.specs.Lent.{offered_maps, lent_maps};
 ghost use Rattle.judge.specs.Verdicts.{map_found, data_verdict, map_verdict, row_verdict, symbol_verdict, refused_for};
 ghost use Rattle.judge.specs.Verdicts.{Says, SiteAt, SiteAsked, DataAsked, Tabled};
 ghost use Rattle.judge.specs.Judged.{Asked, Judges};
@@ -25,7 +26,7 @@ const LEAST: i64 = -0x8000_0000;
 
 const MOST: i64 = 0x7FFF_FFFF;
 
-#[derive(Drop)]
+#[derive(Clone, Copy)]
 pub enum Verdict {
     Skipped,
     Refused(Refusal),
@@ -36,7 +37,7 @@ pub enum Verdict {
 }
 
 // What is read of a relocation's slot: where it stands, in its function and in table 6, and what it holds.
-#[derive(Drop)]
+#[derive(Clone, Copy)]
 pub struct Site {
     pub row: u32,
     pub slot: Slot,
@@ -61,7 +62,7 @@ fn fits(sum: i64) -> bool
 
 fn find_map(maps: &[u8], symbol: u32, home: u32) -> Found
     requires { Sound Maps maps.now }
-    ensures { result ≡ found_of (map_found (was maps) symbol home) }
+    ensures { result ≡ found_of (map_found maps.now symbol home) }
 {
     let found = find_map_symbol(maps, symbol);
     match found {
@@ -72,7 +73,7 @@ fn find_map(maps: &[u8], symbol: u32, home: u32) -> Found
 
 fn by_data(maps: &[u8], m: usize, address: ByteOffset, site: Site) -> Verdict
     requires { DataAsked maps.now m address.0 site }
-    ensures { Says site (data_verdict (was maps) m address.0 site) result }
+    ensures { Says site (data_verdict maps.now m address.0 site) result }
 {
     let fd = map_fd(maps, m);
     let here = site.here;
@@ -90,7 +91,7 @@ fn by_data(maps: &[u8], m: usize, address: ByteOffset, site: Site) -> Verdict
 
 fn by_map(maps: &[u8], symbol: u32, home: u32, address: ByteOffset, site: Site) -> Verdict
     requires { Sound Maps maps.now × (address.0 < 2 ^ 48) }
-    ensures { Says site (map_verdict (was maps) symbol home address.0 site) result }
+    ensures { Says site (map_verdict maps.now symbol home address.0 site) result }
 {
     let Found::At(m) = find_map(maps, symbol, home) else {
         return refused(Cause::SectionNotFound, site);
@@ -104,7 +105,7 @@ fn by_map(maps: &[u8], symbol: u32, home: u32, address: ByteOffset, site: Site) 
 // By the row of the symbol in table 2.
 fn by_row(code: &[u8], symbols: &[u8], maps: &[u8], s: usize, symbol: u32, site: Site) -> Verdict
     requires { Tabled code.now symbols.now maps.now × (s < whole_rows Symbols symbols.now) }
-    ensures { Says site (row_verdict (was code) (was symbols) (was maps) s symbol site) result }
+    ensures { Says site (row_verdict code.now symbols.now maps.now s symbol site) result }
 {
     let home = symbol_section(symbols, s);
     if home == NONE {
@@ -125,7 +126,7 @@ fn by_row(code: &[u8], symbols: &[u8], maps: &[u8], s: usize, symbol: u32, site:
 
 fn by_symbol(code: &[u8], symbols: &[u8], maps: &[u8], symbol: u32, site: Site) -> Verdict
     requires { Tabled code.now symbols.now maps.now }
-    ensures { Says site (symbol_verdict (was code) (was symbols) (was maps) symbol site) result }
+    ensures { Says site (symbol_verdict code.now symbols.now maps.now symbol site) result }
 {
     let Found::At(s) = find_symbol(symbols, symbol) else {
         return refused(Cause::UnknownSymbol, site);
@@ -136,7 +137,7 @@ fn by_symbol(code: &[u8], symbols: &[u8], maps: &[u8], symbol: u32, site: Site) 
 // The slot of a function of `slots` slots, the first of them at `first` in table 6.
 fn read_site(instructions: &[u8], row: u32, slot: Slot, first: Slot, slots: Slot) -> Site
     requires { SiteAsked instructions.now slot.0 first.0 slots.0 }
-    ensures { SiteAt (was instructions) row slot.0 first.0 slots.0 result }
+    ensures { SiteAt instructions.now row slot.0 first.0 slots.0 result }
 {
     let here = after(first, slot);
     let end = after(first, slots);
@@ -165,8 +166,8 @@ pub fn judge(
     first: Slot,
     k: usize,
 ) -> Verdict
-    requires { Asked (offered_maps code symbols functions relocations maps instructions) row first.0 k }
-    ensures { Judges (lent_maps code symbols functions relocations maps instructions) row first.0 k result }
+    requires { Asked (offered_maps code.now symbols.now functions.now relocations.now maps.now instructions.now) row first.0 k }
+    ensures { Judges (lent_maps code.now symbols.now functions.now relocations.now maps.now instructions.now) row first.0 k result }
 {
     let offset = relocation_offset(relocations, k);
     let start = function_offset(functions, row);

@@ -92,7 +92,7 @@ module _ (o : Offered) (root : ℕ) (lent : Outputs) where
     root_in = Refusing.root_is_row o root a.passed
 
     same : (row : ℕ) → row < whole_rows Functions o.functions → (object_of (tables_of little o)).slots row ≡ function_slots o.functions row
-    same row l = object_slots (Refusing.link_checked_lem o root a.passed) row l
+    same row l = object_slots (Refusing.link_checked o root a.passed) row l
 
     once : Once (object_of (tables_of little o)) (whole_rows Functions o.functions) ((object_of (tables_of little o)).slots root) (length a.final.image) a.final.placed
     once = record {
@@ -174,7 +174,7 @@ module _ (o : Offered) (root : ℕ) (b : Buffers) (size : ℕ) where
       -- what `put_list` asks
       pub lists : {p : List ℕ} → p ≡ replicate size 0 → Lists o.functions root places.0 p
       lists zp = record {
-        sound = (Refusing.link_checked_lem o root ends.passed).tables.functions;
+        sound = (Refusing.link_checked o root ends.passed).tables.functions;
         root_in = Refusing.root_is_row o root ends.passed;
         few = omega (arith, slots_are, accounts.few);
         room = omega (arith, ap length zp, length-replicate {A = ℕ} size 0);

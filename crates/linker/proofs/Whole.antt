@@ -362,7 +362,7 @@ module _ (o : Offered) (root : ℕ) (b : Buffers) {i f l : List ℕ} (zi : i ≡
   module _ (passed : link_refusal o root ≡ none) where
     pub entry_starts : Starts o root (buffers i f l)
     entry_starts = record {
-      checked = Refusing.link_checked_lem o root passed;
+      checked = Refusing.link_checked o root passed;
       root_in = Refusing.root_is_row o root passed;
       image = zero_again (length b.image) i zi;
       funcs = zero_again (length b.funcs) f zf;

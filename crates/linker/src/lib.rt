@@ -1,7 +1,8 @@
 // The link step (the crate's FunctionLinker): the root first, then each callee where it is first met, depth first.
+#![tactic(auto)]
 ghost use Rattle.std.specs.Prelude.{◌≡◌, ◌+◌, ◌*◌, ◌≤◌, ◌<◌, length};
 ghost use Rattle.rules.specs.Bytes.{little, slot_size};
-ghost use Rattle.rules.specs.Lent.{was, offered, lent, outputs, lent_outputs, lent_by};
+ghost use Rattle.rules.specs.Lent.{offered, lent, outputs, lent_outputs, lent_by};
 ghost use Rattle.rules.specs.Rows.{most_image_slots};
 ghost use Rattle.rules.specs.Entries.{link_entry, link_pieces_entry};
 ghost use Rattle.linker.specs.Linker.{Adds, Added, Asks, Placed, Visits, Visited, pointed_to, Starts, Ended, Outcomes, StartedOutcomes, ListedOutcomes};
@@ -19,13 +20,13 @@ use tables::checks::check_link;
 use wire::wipe;
 
 // Where each function of table 3 starts in the image, 0 if it is not placed: the root has a slot, so no callee starts at 0.
-#[derive(Drop)]
+#[derive(Clone, Copy)]
 pub struct State {
     pub starts: [u16; MOST_FUNCTIONS],
     pub used: Used,
 }
 
-#[derive(Drop)]
+#[derive(Clone, Copy)]
 pub struct Step {
     pub judged: Judgement,
     pub state: State,
@@ -35,7 +36,7 @@ pub struct Step {
 fn point(image: &mut [u8], here: Slot, start: Slot, reference: bool)
     requires { (slot_size * here.0 + slot_size ≤ length image.old)
         × ((start.0 < most_image_slots) × (here.0 < most_image_slots)) }
-    ensures { image.new ≡ pointed_to reference (was image) here.0 start.0 }
+    ensures { image.new ≡ pointed_to reference image.old here.0 start.0 }
 {
     let to = displacement(start, here) as i32;
     if reference {
@@ -63,17 +64,17 @@ fn link_function(
     row: usize,
 ) -> Step
     requires { Adds
-        (offered code symbols functions relocations instructions func_info line_info)
+        (offered code.now symbols.now functions.now relocations.now instructions.now func_info.now line_info.now)
         st
-        (outputs image image_func_info image_line_info)
+        (outputs image.old image_func_info.old image_line_info.old)
         row }
     ensures { Added
-        (lent code symbols functions relocations instructions func_info line_info)
+        (lent code.now symbols.now functions.now relocations.now instructions.now func_info.now line_info.now)
         st
-        (lent_outputs image image_func_info image_line_info)
+        (lent_outputs image.old image_func_info.old image_line_info.old)
         row
         result
-        (outputs image.exit image_func_info.exit image_line_info.exit) }
+        (outputs image.new image_func_info.new image_line_info.new) }
 {
     let used = st.used;
     if !has_room(
@@ -147,17 +148,17 @@ fn placed(
     callee: usize,
 ) -> Step
     requires { Asks
-        (offered code symbols functions relocations instructions func_info line_info)
+        (offered code.now symbols.now functions.now relocations.now instructions.now func_info.now line_info.now)
         st
-        (outputs image image_func_info image_line_info)
+        (outputs image.old image_func_info.old image_line_info.old)
         callee }
     ensures { Placed
-        (lent code symbols functions relocations instructions func_info line_info)
+        (lent code.now symbols.now functions.now relocations.now instructions.now func_info.now line_info.now)
         st
-        (lent_outputs image image_func_info image_line_info)
+        (lent_outputs image.old image_func_info.old image_line_info.old)
         callee
         result
-        (outputs image.exit image_func_info.exit image_line_info.exit) }
+        (outputs image.new image_func_info.new image_line_info.new) }
 {
     if st.starts[callee] == 0 {
         return link_function(
@@ -200,20 +201,20 @@ fn relocate(
     first: Slot,
 ) -> Step
     requires { Visits
-        (offered code symbols functions relocations instructions func_info line_info)
+        (offered code.now symbols.now functions.now relocations.now instructions.now func_info.now line_info.now)
         st
-        (outputs image image_func_info image_line_info)
+        (outputs image.old image_func_info.old image_line_info.old)
         row
         start.0
         first.0 }
     ensures { Visited
-        (lent code symbols functions relocations instructions func_info line_info)
+        (lent code.now symbols.now functions.now relocations.now instructions.now func_info.now line_info.now)
         st
-        (lent_outputs image image_func_info image_line_info)
+        (lent_outputs image.old image_func_info.old image_line_info.old)
         row
         start.0
         result
-        (outputs image.exit image_func_info.exit image_line_info.exit) }
+        (outputs image.new image_func_info.new image_line_info.new) }
 {
     let own = function_slots(functions, row);
     let slots = own.0;
@@ -297,7 +298,7 @@ fn relocate(
 }
 
 // What a link answers, and where it placed each function of table 3 (0 for none); a refusal's starts say nothing.
-#[derive(Drop)]
+#[derive(Clone, Copy)]
 pub struct Linked {
     pub answer: Answer,
     pub starts: [u16; MOST_FUNCTIONS],
@@ -318,14 +319,14 @@ fn link_checked(
     root: u32,
 ) -> Linked
     requires { Starts
-        (offered code symbols functions relocations instructions func_info line_info)
+        (offered code.now symbols.now functions.now relocations.now instructions.now func_info.now line_info.now)
         root
-        (outputs image image_func_info image_line_info) }
+        (outputs image.old image_func_info.old image_line_info.old) }
     ensures { Ended
-        (lent code symbols functions relocations instructions func_info line_info)
+        (lent code.now symbols.now functions.now relocations.now instructions.now func_info.now line_info.now)
         root
-        (lent_outputs image image_func_info image_line_info)
-        (outputs image.exit image_func_info.exit image_line_info.exit)
+        (lent_outputs image.old image_func_info.old image_line_info.old)
+        (outputs image.new image_func_info.new image_line_info.new)
         result }
 {
     let row = root as usize;
@@ -409,10 +410,10 @@ fn link_starts(
     root: u32,
 ) -> Linked
     ensures { StartedOutcomes
-        (lent code symbols functions relocations instructions func_info line_info)
+        (lent code.now symbols.now functions.now relocations.now instructions.now func_info.now line_info.now)
         root
-        (lent_by (lent_outputs image image_func_info image_line_info))
-        (outputs image.exit image_func_info.exit image_line_info.exit)
+        (lent_by (lent_outputs image.old image_func_info.old image_line_info.old))
+        (outputs image.new image_func_info.new image_line_info.new)
         result }
 {
     wipe(image);
@@ -472,13 +473,13 @@ pub fn link(
     root: u32,
 ) -> Answer
     ensures { Outcomes
-        (outputs image.exit image_func_info.exit image_line_info.exit)
+        (outputs image.new image_func_info.new image_line_info.new)
         result
         (link_entry
         little
-        (lent code symbols functions relocations instructions func_info line_info)
+        (lent code.now symbols.now functions.now relocations.now instructions.now func_info.now line_info.now)
         root
-        (lent_by (lent_outputs image image_func_info image_line_info))) }
+        (lent_by (lent_outputs image.old image_func_info.old image_line_info.old))) }
 {
     let linked = link_starts(
         code,
@@ -497,7 +498,7 @@ pub fn link(
 }
 
 // What a link with its list answers, and how many pieces the list has.
-#[derive(Drop)]
+#[derive(Clone, Copy)]
 pub struct Listed {
     pub answer: Answer,
     pub count: usize,
@@ -520,15 +521,15 @@ pub fn link_pieces(
     root: u32,
 ) -> Listed
     ensures { ListedOutcomes
-        (outputs image.exit image_func_info.exit image_line_info.exit)
+        (outputs image.new image_func_info.new image_line_info.new)
         pieces.new
         result
         (link_pieces_entry
         little
-        (lent code symbols functions relocations instructions func_info line_info)
+        (lent code.now symbols.now functions.now relocations.now instructions.now func_info.now line_info.now)
         root
-        (lent_by (lent_outputs image image_func_info image_line_info))
-        (length (was pieces))) }
+        (lent_by (lent_outputs image.old image_func_info.old image_line_info.old))
+        (length pieces.old)) }
 {
     let rows = functions.len() / FUNCTION_SIZE;
     if pieces.len() < PIECE_SIZE * (rows + 1) {

@@ -1,11 +1,12 @@
 // The map step: every relocation of every function judged, then all that apply rewritten in place.
+#![tactic(auto)]
 ghost use Rattle.std.specs.Prelude.{◌≡◌, suc, ◌+◌, ◌*◌, ◌≤◌, ◌<◌, ◌^◌, length};
 ghost use Rattle.std.proofs.Math.Option.{none, some};
 ghost use Rattle.rules.specs.declared.Table.TheVariants.{Functions, Relocations};
 ghost use Rattle.rules.specs.Answers.{refusal_in};
 ghost use Rattle.rules.specs.Bytes.{little};
 ghost use Rattle.rules.specs.Entries.{map_entry};
-ghost use Rattle.rules.specs.Lent.{was, offered_maps, lent_maps};
+ghost use Rattle.rules.specs.Lent.{offered_maps, lent_maps};
 ghost use Rattle.rules.specs.Lookups.{Sound, MapChecked};
 ghost use Rattle.rules.specs.Rows.{row_size, whole_rows};
 ghost use Rattle.judge.specs.Judged.{RowAsked, Asked, Inside};
@@ -36,7 +37,7 @@ fn refusal_of(v: Verdict) -> Judgement
 // Whether row k of table 4 is of the section `home`, before the offset `end`.
 fn is_within(relocations: &[u8], k: usize, home: u32, end: ByteOffset) -> bool
     requires { row_size Relocations * k + row_size Relocations ≤ length relocations.now }
-    ensures { result ≡ is_within (was relocations) home end.0 k }
+    ensures { result ≡ is_within relocations.now home end.0 k }
 {
     let section = relocation_section(relocations, k);
     let offset = relocation_offset(relocations, k);
@@ -45,7 +46,7 @@ fn is_within(relocations: &[u8], k: usize, home: u32, end: ByteOffset) -> bool
 
 fn end_of(functions: &[u8], row: usize) -> ByteOffset
     requires { Sound Functions functions.now × (row < whole_rows Functions functions.now) }
-    ensures { result.0 ≡ end_of (was functions) row }
+    ensures { result.0 ≡ end_of functions.now row }
 {
     place(
         function_offset(functions, row),
@@ -55,7 +56,7 @@ fn end_of(functions: &[u8], row: usize) -> ByteOffset
 
 fn first_of(functions: &[u8], relocations: &[u8], row: usize) -> usize
     requires { Sound Relocations relocations.now × (row < whole_rows Functions functions.now) }
-    ensures { (result ≡ first_row (was functions) (was relocations) row) × (result ≤ whole_rows Relocations (was relocations)) }
+    ensures { (result ≡ first_row functions.now relocations.now row) × (result ≤ whole_rows Relocations relocations.now) }
 {
     relocations_before(
         relocations,
@@ -74,8 +75,8 @@ fn judge_function(
     row: usize,
     first: Slot,
 ) -> Judgement
-    requires { RowAsked (offered_maps code symbols functions relocations maps instructions) row first.0 }
-    ensures { refusal_in result ≡ row_refusal (lent_maps code symbols functions relocations maps instructions) row }
+    requires { RowAsked (offered_maps code.now symbols.now functions.now relocations.now maps.now instructions.now) row first.0 }
+    ensures { refusal_in result ≡ row_refusal (lent_maps code.now symbols.now functions.now relocations.now maps.now instructions.now) row }
 {
     let home = function_section(functions, row);
     let end = end_of(functions, row);
@@ -112,8 +113,8 @@ fn judge_all(
     maps: &[u8],
     instructions: &[u8],
 ) -> Judgement
-    requires { MapChecked (offered_maps code symbols functions relocations maps instructions) }
-    ensures { refusal_in result ≡ step_refusal (lent_maps code symbols functions relocations maps instructions) }
+    requires { MapChecked (offered_maps code.now symbols.now functions.now relocations.now maps.now instructions.now) }
+    ensures { refusal_in result ≡ step_refusal (lent_maps code.now symbols.now functions.now relocations.now maps.now instructions.now) }
 {
     let n = functions.len() / FUNCTION_SIZE;
     let mut row = 0;
@@ -143,7 +144,7 @@ fn judge_all(
 
 fn apply_plain(instructions: &mut [u8], here: Slot, fd: i32)
     requires { Inside instructions.old here.0 }
-    ensures { Changed (was instructions) here.0 fd none instructions.new }
+    ensures { Changed instructions.old here.0 fd none instructions.new }
 {
     set_source(instructions, here, 1);
     set_immediate(instructions, here, fd);
@@ -151,7 +152,7 @@ fn apply_plain(instructions: &mut [u8], here: Slot, fd: i32)
 
 fn apply_valued(instructions: &mut [u8], here: Slot, fd: i32, value: i32)
     requires { Inside instructions.old (suc here.0) × (here.0 + 1 < 2 ^ 32) }
-    ensures { Changed (was instructions) here.0 fd (some value) instructions.new }
+    ensures { Changed instructions.old here.0 fd (some value) instructions.new }
 {
     set_source(instructions, here, 2);
     set_immediate(instructions, next(here), value);
@@ -170,8 +171,8 @@ fn rewrite_one(
     first: Slot,
     k: usize,
 ) -> u32
-    requires { Asked (offered_maps code symbols functions relocations maps instructions) row first.0 k }
-    ensures { OneRewritten (lent_maps code symbols functions relocations maps instructions) row k result instructions.new }
+    requires { Asked (offered_maps code.now symbols.now functions.now relocations.now maps.now instructions.old) row first.0 k }
+    ensures { OneRewritten (lent_maps code.now symbols.now functions.now relocations.now maps.now instructions.old) row k result instructions.new }
 {
     let v = judge(
         code,
@@ -208,8 +209,8 @@ fn rewrite_function(
     row: usize,
     first: Slot,
 ) -> u32
-    requires { RowAsked (offered_maps code symbols functions relocations maps instructions) row first.0 }
-    ensures { RowRewritten (lent_maps code symbols functions relocations maps instructions) row result instructions.new }
+    requires { RowAsked (offered_maps code.now symbols.now functions.now relocations.now maps.now instructions.old) row first.0 }
+    ensures { RowRewritten (lent_maps code.now symbols.now functions.now relocations.now maps.now instructions.old) row result instructions.new }
 {
     let home = function_section(functions, row);
     let end = end_of(functions, row);
@@ -244,8 +245,8 @@ fn rewrite_all(
     maps: &[u8],
     instructions: &mut [u8],
 ) -> u32
-    requires { MapChecked (offered_maps code symbols functions relocations maps instructions) }
-    ensures { AllRewritten (lent_maps code symbols functions relocations maps instructions) result instructions.new }
+    requires { MapChecked (offered_maps code.now symbols.now functions.now relocations.now maps.now instructions.old) }
+    ensures { AllRewritten (lent_maps code.now symbols.now functions.now relocations.now maps.now instructions.old) result instructions.new }
 {
     let rows = functions.len() / FUNCTION_SIZE;
     let mut row = 0;
@@ -277,8 +278,8 @@ fn relocate_checked(
     maps: &[u8],
     instructions: &mut [u8],
 ) -> Answer
-    requires { MapChecked (offered_maps code symbols functions relocations maps instructions) }
-    ensures { Relocated (step_result (lent_maps code symbols functions relocations maps instructions)) result instructions.new }
+    requires { MapChecked (offered_maps code.now symbols.now functions.now relocations.now maps.now instructions.old) }
+    ensures { Relocated (step_result (lent_maps code.now symbols.now functions.now relocations.now maps.now instructions.old)) result instructions.new }
 {
     let j = judge_all(code, symbols, functions, relocations, maps, instructions);
     match j {
@@ -299,7 +300,7 @@ pub fn relocate_maps(
     maps: &[u8],
     instructions: &mut [u8],
 ) -> Answer
-    ensures { Relocated (map_entry little (lent_maps code symbols functions relocations maps instructions)) result instructions.new }
+    ensures { Relocated (map_entry little (lent_maps code.now symbols.now functions.now relocations.now maps.now instructions.old)) result instructions.new }
 {
     let checked = check_map_step(code, symbols, functions, relocations, maps, instructions);
     match checked {

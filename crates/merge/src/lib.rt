@@ -1,8 +1,9 @@
 // One function added to an image: room, line records that stray, copies of slots and records.
+#![tactic(auto)]
 ghost use Rattle.std.specs.Prelude.{◌≡◌, map, ◌+◌, ◌*◌, ◌/◌, ◌≤◌, ◌<◌, min, leb, length, take, drop};
 ghost use Rattle.rules.specs.declared.Table.TheVariants.{Functions, FuncInfo, LineInfo};
 ghost use Rattle.rules.specs.Bytes.{little, splice};
-ghost use Rattle.rules.specs.Lent.{was, offered_parts, lent_parts, outputs, lent_outputs};
+ghost use Rattle.rules.specs.Lent.{offered_parts, lent_parts, outputs, lent_outputs};
 ghost use Rattle.rules.specs.Rows.{row_size, whole_rows};
 ghost use Rattle.rules.specs.Records.{started_at};
 ghost use Rattle.rules.specs.Entries.{func_info_bytes, line_info_bytes};
@@ -22,7 +23,7 @@ use rules::limits::{
 use wire::{copy, put_u32};
 
 // How much an image holds: slots, function records, line records.
-#[derive(Drop)]
+#[derive(Clone, Copy)]
 pub struct Used {
     pub slots: u32,
     pub funcs: u32,
@@ -31,7 +32,7 @@ pub struct Used {
 
 fn counts(functions: &[u8], row: usize) -> Used
     requires { row < whole_rows Functions functions.now }
-    ensures { RowCounts (was functions) row result }
+    ensures { RowCounts functions.now row result }
 {
     let slots = function_slots(functions, row);
     let funcs = function_func_info(functions, row);
@@ -46,7 +47,7 @@ fn counts(functions: &[u8], row: usize) -> Used
 // Where a row's part begins in tables 6, 7 and 8.
 pub fn part_of(functions: &[u8], row: usize) -> Used
     requires { Sums functions.now row }
-    ensures { PartBegins (was functions) row result }
+    ensures { PartBegins functions.now row result }
 {
     let mut slots: u32 = 0;
     let mut funcs: u32 = 0;
@@ -88,7 +89,7 @@ pub fn has_room(
     row: usize,
 ) -> bool
     requires { row < whole_rows Functions functions.now }
-    ensures { result ≡ room_bytes (was functions) image funcs lines used row }
+    ensures { result ≡ room_bytes functions.now image funcs lines used row }
 {
     let added = counts(functions, row);
     if !fits(
@@ -121,7 +122,7 @@ pub fn has_room(
 // The first line record of a function that lies before its first one, or past its slots.
 pub fn stray_line(functions: &[u8], line_info: &[u8], row: usize, first: u32) -> Found
     requires { Lined functions.now line_info.now row first }
-    ensures { result ≡ found_of (stray_in (was functions) (was line_info) row) }
+    ensures { result ≡ found_of (stray_in functions.now line_info.now row) }
 {
     let at = first as usize;
     let count = function_line_info(functions, row) as usize;
@@ -148,7 +149,7 @@ pub fn stray_line(functions: &[u8], line_info: &[u8], row: usize, first: u32) ->
 
 fn put_pair(out: &mut [u8], at: usize, a: u32, b: u32)
     requires { at + 8 ≤ length out.old }
-    ensures { out.new ≡ splice (was out) at (pair_bytes a b) }
+    ensures { out.new ≡ splice out.old at (pair_bytes a b) }
 {
     put_u32(out, at, a);
     put_u32(out, at + 4, b);
@@ -156,7 +157,7 @@ fn put_pair(out: &mut [u8], at: usize, a: u32, b: u32)
 
 fn copy_rows(size: usize, table: &[u8], first: u32, count: u32, out: &mut [u8], at: u32)
     requires { Copyable size table.now first count out.old at }
-    ensures { out.new ≡ splice (was out) (size * at) (take (size * count) (drop (size * first) (was table))) }
+    ensures { out.new ≡ splice out.old (size * at) (take (size * count) (drop (size * first) table.now)) }
 {
     copy(
         out,
@@ -171,9 +172,9 @@ fn copy_rows(size: usize, table: &[u8], first: u32, count: u32, out: &mut [u8], 
 fn link_func_info(func_info: &[u8], part: Used, more: Used, out: &mut [u8], used: Used)
     requires { Copyable (row_size FuncInfo) func_info.now part.funcs more.funcs out.old used.funcs }
     ensures { out.new ≡ splice
-        (was out)
+        out.old
         (row_size FuncInfo * used.funcs)
-        (func_info_bytes little (map (started_at used.slots) (funcs_from (was func_info) part.funcs more.funcs))) }
+        (func_info_bytes little (map (started_at used.slots) (funcs_from func_info.now part.funcs more.funcs))) }
 {
     let from = part.funcs as usize;
     let to = used.funcs as usize;
@@ -191,9 +192,9 @@ fn link_line_info(line_info: &[u8], part: Used, more: Used, out: &mut [u8], used
     requires { (Copyable (row_size LineInfo) line_info.now part.lines more.lines out.old used.lines)
         × (Near line_info.now part.lines more.lines used.slots) }
     ensures { out.new ≡ splice
-        (was out)
+        out.old
         (row_size LineInfo * used.lines)
-        (line_info_bytes little (moved used.slots (lines_from (was line_info) part.lines more.lines))) }
+        (line_info_bytes little (moved used.slots (lines_from line_info.now part.lines more.lines))) }
 {
     let from = part.lines as usize;
     let to = used.lines as usize;
@@ -229,15 +230,15 @@ pub fn extend(
     part: Used,
 ) -> Used
     requires { Extends
-        (offered_parts functions instructions func_info line_info)
-        (outputs image image_func_info image_line_info)
+        (offered_parts functions.now instructions.now func_info.now line_info.now)
+        (outputs image.old image_func_info.old image_line_info.old)
         used
         row
         part }
     ensures { Extended
-        (lent_parts functions instructions func_info line_info)
-        (lent_outputs image image_func_info image_line_info)
-        (outputs image.exit image_func_info.exit image_line_info.exit)
+        (lent_parts functions.now instructions.now func_info.now line_info.now)
+        (lent_outputs image.old image_func_info.old image_line_info.old)
+        (outputs image.new image_func_info.new image_line_info.new)
         used
         row
         result }
@@ -273,14 +274,14 @@ pub fn begin(
     part: Used,
 ) -> Used
     requires { Begins
-        (offered_parts functions instructions func_info line_info)
-        (outputs image image_func_info image_line_info)
+        (offered_parts functions.now instructions.now func_info.now line_info.now)
+        (outputs image.old image_func_info.old image_line_info.old)
         row
         part }
     ensures { Begun
-        (lent_parts functions instructions func_info line_info)
-        (lent_outputs image image_func_info image_line_info)
-        (outputs image.exit image_func_info.exit image_line_info.exit)
+        (lent_parts functions.now instructions.now func_info.now line_info.now)
+        (lent_outputs image.old image_func_info.old image_line_info.old)
+        (outputs image.new image_func_info.new image_line_info.new)
         row
         result }
 {

@@ -2,7 +2,6 @@
 ghost use Rattle.std.specs.Prelude.{◌≡◌, ◌+◌, ◌*◌, ◌≤◌, ◌<◌, length};
 ghost use Rattle.rules.specs.declared.Table.TheVariants.{Functions};
 ghost use Rattle.rules.specs.Bytes.{splice};
-ghost use Rattle.rules.specs.Lent.{was};
 ghost use Rattle.rules.specs.Lookups.{found_of};
 ghost use Rattle.rules.specs.Pieces.{piece_size};
 ghost use Rattle.rules.specs.Rows.{most_rows};
@@ -15,7 +14,7 @@ use wire::put_u32;
 
 fn put_piece(out: &mut [u8], k: usize, row: u32, start: u32)
     requires { piece_size * k + piece_size ≤ length out.old }
-    ensures { out.new ≡ splice (was out) (piece_size * k) (piece_bytes row start) }
+    ensures { out.new ≡ splice out.old (piece_size * k) (piece_bytes row start) }
 {
     let at = PIECE_SIZE * k;
     put_u32(out, at, row);
@@ -25,7 +24,7 @@ fn put_piece(out: &mut [u8], k: usize, row: u32, start: u32)
 // The first of n functions that starts there.
 fn find_start(starts: &[u16; MOST_FUNCTIONS], n: usize, at: u16) -> Found
     requires { n ≤ most_rows Functions }
-    ensures { result ≡ found_of (row_at (was starts) n at) }
+    ensures { result ≡ found_of (row_at starts.now n at) }
 {
     let mut k = 0;
     while k < n {
@@ -47,7 +46,7 @@ pub fn put_list(
     out: &mut [u8],
 ) -> usize
     requires { Lists functions.now root end out.old }
-    ensures { Puts (was functions) (was starts) root end (was out) out.new result }
+    ensures { Puts functions.now starts.now root end out.old out.new result }
 {
     put_piece(out, 0, root, 0);
     let n = functions.len() / FUNCTION_SIZE;

@@ -1,7 +1,6 @@
 // A list of pieces as an examiner meets it: the root first, piece after piece to the image's end, and the piece at a start.
 ghost use Rattle.std.specs.Prelude.{◌≡◌, ◌&&◌, ◌+◌, ◌*◌, ◌≤◌, eqb, length};
 ghost use Rattle.rules.specs.Answers.{refusal_in};
-ghost use Rattle.rules.specs.Lent.{was};
 ghost use Rattle.rules.specs.Pieces.{piece_size, piece_row, piece_start, pieces_of};
 ghost use Rattle.rules.specs.Examine.{root_wrong, tiles_wrong, starts_at};
 ghost use Rattle.pieces.specs.Tiling.{functions_only, Tileable, listed, StartsRise, start_is_before, starts_before};
@@ -14,7 +13,7 @@ use rules::{Cause, Judgement, Slot};
 
 fn is_piece(t: &[u8], k: usize, row: u32, place: u64) -> bool
     requires { piece_size * k + piece_size ≤ length t.now }
-    ensures { result ≡ (eqb (piece_row (was t) k) row && eqb (piece_start (was t) k) place) }
+    ensures { result ≡ (eqb (piece_row t.now k) row && eqb (piece_start t.now k) place) }
 {
     let own = piece_row(t, k);
     let start = piece_start(t, k);
@@ -23,7 +22,7 @@ fn is_piece(t: &[u8], k: usize, row: u32, place: u64) -> bool
 
 // A list of less than a row has no first piece.
 pub fn check_root(pieces: &[u8], root: u32) -> Judgement
-    ensures { refusal_in result ≡ root_wrong root (pieces_of (was pieces)) }
+    ensures { refusal_in result ≡ root_wrong root (pieces_of pieces.now) }
 {
     if pieces.len() < PIECE_SIZE {
         return Judgement::Refused(refusal(Cause::RootNotFirst, 0, 0));
@@ -37,7 +36,7 @@ pub fn check_root(pieces: &[u8], root: u32) -> Judgement
 // Table 3 alone decides.
 pub fn check_tiles(functions: &[u8], pieces: &[u8], end: Slot) -> Judgement
     requires { Tileable functions.now pieces.now }
-    ensures { refusal_in result ≡ tiles_wrong (functions_only (was functions)) end.0 0 0 (pieces_of (was pieces)) }
+    ensures { refusal_in result ≡ tiles_wrong (functions_only functions.now) end.0 0 0 (pieces_of pieces.now) }
 {
     let rows = functions.len() / FUNCTION_SIZE;
     let n = pieces.len() / PIECE_SIZE;
@@ -65,7 +64,7 @@ pub fn check_tiles(functions: &[u8], pieces: &[u8], end: Slot) -> Judgement
 
 fn is_before(t: &[u8], k: usize, place: u64) -> bool
     requires { piece_size * k + piece_size ≤ length t.now }
-    ensures { result ≡ start_is_before (was t) place k }
+    ensures { result ≡ start_is_before t.now place k }
 {
     let start = piece_start(t, k);
     (start.0 as u64) < place
@@ -74,7 +73,7 @@ fn is_before(t: &[u8], k: usize, place: u64) -> bool
 // How many pieces start before a slot of the image, by halving.
 fn starts_before(pieces: &[u8], place: u64) -> usize
     requires { StartsRise pieces.now }
-    ensures { (result ≡ starts_before (was pieces) place) × (result ≤ listed (was pieces)) }
+    ensures { (result ≡ starts_before pieces.now place) × (result ≤ listed pieces.now) }
 {
     let mut low = 0;
     let mut high = pieces.len() / PIECE_SIZE;
@@ -92,7 +91,7 @@ fn starts_before(pieces: &[u8], place: u64) -> usize
 // Whether a piece of the function `row` starts at `target`.
 pub fn starts_at(pieces: &[u8], target: i64, row: u32) -> bool
     requires { StartsRise pieces.now }
-    ensures { result ≡ starts_at target row (pieces_of (was pieces)) }
+    ensures { result ≡ starts_at target row (pieces_of pieces.now) }
 {
     if target < 0 {
         return false;

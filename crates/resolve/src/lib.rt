@@ -1,9 +1,10 @@
 // The judgement of a slot: what it names by section and address, and what the link makes of that.
+#![tactic(auto)]
 ghost use Rattle.std.specs.Prelude.{◌≡◌, [], ◌+◌, ◌*◌, ◌<◌, ◌≤◌, pos, ◌+ℤ◌};
 ghost use Rattle.std.proofs.Math.Option.{some};
 ghost use Rattle.rules.specs.declared.Table.TheVariants.{Functions};
 ghost use Rattle.rules.specs.Bytes.{little, slot_in};
-ghost use Rattle.rules.specs.Lent.{was, offered_code, lent_code};
+ghost use Rattle.rules.specs.Lent.{offered_code, lent_code};
 ghost use Rattle.rules.specs.Object as object;
 ghost use Rattle.rules.specs.Tables.{section, or_missing, slots_on, by_code, by_symbol, by_symbol_row, by_relocation, object_of};
 ghost use Rattle.rules.specs.Rows.{whole_rows, most_address, kind_of, or_none, tables_of};
@@ -23,7 +24,7 @@ use rules::limits::{NONE, OTHER, TEXT};
 use rules::{ByteOffset, Cause, Found, Refusal, Slot};
 
 // What a slot names. Numbers are document 01's.
-#[derive(Drop)]
+#[derive(Clone, Copy)]
 pub enum Named {
     Nothing,
     Function(usize),
@@ -36,7 +37,7 @@ pub enum Named {
 }
 
 // What the link makes of a slot: the callee's row, and whether it is a reference.
-#[derive(Drop)]
+#[derive(Clone, Copy)]
 pub enum Meaning {
     Copied,
     Points(usize, bool),
@@ -45,7 +46,7 @@ pub enum Meaning {
 
 pub fn by_address(functions: &[u8], home: u32, target: i64) -> Named
     requires { Sound Functions functions.now }
-    ensures { named_of result ≡ or_missing (function_with (was functions) home target) }
+    ensures { named_of result ≡ or_missing (function_with functions.now home target) }
 {
     let found = find_function(functions, home, target);
     match found {
@@ -57,7 +58,7 @@ pub fn by_address(functions: &[u8], home: u32, target: i64) -> Named
 // "Section with size 32 targets address + 8 × (immediate + 1), with size 64 address + immediate; anything else 8".
 pub fn by_section(functions: &[u8], home: u32, address: ByteOffset, size: u8, imm: i32) -> Named
     requires { Sound Functions functions.now × (address.0 ≤ most_address) }
-    ensures { named_of result ≡ by_code (targets [] (was functions)) section (some home) address.0 size imm }
+    ensures { named_of result ≡ by_code (targets [] functions.now) section (some home) address.0 size imm }
 {
     if size == 32 {
         return by_address(functions, home, call_target(address, imm));
@@ -78,7 +79,7 @@ pub fn by_symbol(
     imm: i32,
 ) -> Named
     requires { Symbolic code.now functions.now address.0 }
-    ensures { named_of result ≡ by_symbol (targets (was code) (was functions)) (kind_of kind) (or_none home) address.0 size imm }
+    ensures { named_of result ≡ by_symbol (targets code.now functions.now) (kind_of kind) (or_none home) address.0 size imm }
 {
     if home == NONE {
         if kind == TEXT {
@@ -102,8 +103,8 @@ pub fn by_symbol(
 // A call without a relocation: its own section, from its own place.
 pub fn by_place(functions: &[u8], row: usize, slot: Slot, imm: i32) -> Named
     requires { Sound Functions functions.now × (row < whole_rows Functions functions.now) }
-    ensures { named_of result ≡ or_missing (function_with (was functions) (function_section (was functions) row)
-        (pos (function_offset (was functions) row + 8 * slot.0) +ℤ slots_on imm)) }
+    ensures { named_of result ≡ or_missing (function_with functions.now (function_section functions.now row)
+        (pos (function_offset functions.now row + 8 * slot.0) +ℤ slots_on imm)) }
 {
     let start = function_offset(functions, row);
     let here = place(start, slot);
@@ -124,9 +125,9 @@ pub fn by_row(
     imm: i32,
 ) -> Named
     requires { Related code.now symbols.now functions.now relocations.now k }
-    ensures { named_of result ≡ by_symbol_row (targets (was code) (was functions))
-        (read_row (symbol_row (was symbols)) (symbol_with (was symbols) (relocation_symbol (was relocations) k)))
-        (relocation_size (was relocations) k) imm }
+    ensures { named_of result ≡ by_symbol_row (targets code.now functions.now)
+        (read_row (symbol_row symbols.now) (symbol_with symbols.now (relocation_symbol relocations.now k)))
+        (relocation_size relocations.now k) imm }
 {
     let found = find_symbol(symbols, relocation_symbol(relocations, k));
     match found {
@@ -154,10 +155,10 @@ pub fn by_relocation(
     at: Slot,
     rel: Found,
 ) -> Named
-    requires { Names (offered_code code symbols functions relocations instructions) row at.0 rel }
-    ensures { named_of result ≡ by_relocation (tables_of little (lent_code code symbols functions relocations instructions))
-        (read_row (relocation_row (was relocations)) (option_of rel)) (function_row (was functions) row) slot.0
-        (slot_in little (was instructions) at.0) }
+    requires { Names (offered_code code.now symbols.now functions.now relocations.now instructions.now) row at.0 rel }
+    ensures { named_of result ≡ by_relocation (tables_of little (lent_code code.now symbols.now functions.now relocations.now instructions.now))
+        (read_row (relocation_row relocations.now) (option_of rel)) (function_row functions.now row) slot.0
+        (slot_in little instructions.now at.0) }
 {
     match rel {
         Found::Nothing => {
@@ -229,9 +230,9 @@ pub fn resolve(
     slot: Slot,
     rel: Found,
 ) -> Meaning
-    requires { Resolves (offered_code code symbols functions relocations instructions) row first.0 slot.0 rel }
+    requires { Resolves (offered_code code.now symbols.now functions.now relocations.now instructions.now) row first.0 slot.0 rel }
     ensures { Means row slot.0 result
-        (object.meaning (object_of (tables_of little (lent_code code symbols functions relocations instructions))) row slot.0) }
+        (object.meaning (object_of (tables_of little (lent_code code.now symbols.now functions.now relocations.now instructions.now))) row slot.0) }
 {
     let at = after(first, slot);
     let slots = function_slots(functions, row);

@@ -48,8 +48,8 @@ module _ (test : ℕ → Bool) (n : ℕ) where
       let z : ◌≡◌ {A = ℕ} 0 1 = cc in
       omega arith
 
-  pub row_missing : found_of (first_from test 0 n) ≡ Nothing → (k : ℕ) → k < n → test k ≡ true → ⊥
-  row_missing e = none_passes (found_none (first_from test 0 n) e)
+  pub row_missing_lem : found_of (first_from test 0 n) ≡ Nothing → (k : ℕ) → k < n → test k ≡ true → ⊥
+  row_missing_lem e = none_passes (found_none (first_from test 0 n) e)
 
 -- ---- tests on fields
 and_both : (a b : Bool) → a ≡ true → b ≡ true → (a && b) ≡ true
@@ -115,7 +115,7 @@ module _ (t : List ℕ) where
 
   pub symbol_missing : (index : ℕ) → found_of (symbol_with t index) ≡ Nothing → (k : ℕ) → k < whole_rows Symbols t → symbol_index t k ≡ index → ⊥
   unfolding symbol_with
-  symbol_missing index e k l s = row_missing (symbol_matches t index) (whole_rows Symbols t) e k l (eq-eqb (symbol_index t k) index s)
+  symbol_missing index e k l s = row_missing_lem (symbol_matches t index) (whole_rows Symbols t) e k l (eq-eqb (symbol_index t k) index s)
 
   -- ---- table 3
   pub record FunctionFound (home : ℕ) (address : ℤ) (k : ℕ) : Type 0 where
@@ -137,7 +137,7 @@ module _ (t : List ℕ) where
       → (k : ℕ) → k < whole_rows Functions t → function_section t k ≡ home → address ≡ pos (function_address t k) → ⊥
   unfolding function_with
   function_missing home address e k l s a =
-      row_missing (function_matches t home address) (whole_rows Functions t) e k l
+      row_missing_lem (function_matches t home address) (whole_rows Functions t) e k l
       (and_both _ _ (eq-eqb (function_section t k) home s) (ap (is_at (function_address t k)) a ∙ eq-eqb (function_address t k) (function_address t k) refl))
 
   -- ---- table 4
@@ -160,7 +160,7 @@ module _ (t : List ℕ) where
       → (k : ℕ) → k < whole_rows Relocations t → relocation_section t k ≡ home → relocation_offset t k ≡ offset → ⊥
   unfolding relocation_with
   relocation_missing home offset e k l s a =
-      row_missing (relocation_matches t home offset) (whole_rows Relocations t) e k l
+      row_missing_lem (relocation_matches t home offset) (whole_rows Relocations t) e k l
       (and_both _ _ (eq-eqb (relocation_section t k) home s) (eq-eqb (relocation_offset t k) offset a))
 
   -- ---- table 5
@@ -180,7 +180,7 @@ module _ (t : List ℕ) where
       → (k : ℕ) → k < whole_rows Maps t → map_symbol t k ≡ symbol → (map_symbol t k ≡ none_number → ⊥) → ⊥
   unfolding map_with_symbol
   map_symbol_missing symbol e k l s o =
-      row_missing (map_symbol_matches t symbol) (whole_rows Maps t) e k l
+      row_missing_lem (map_symbol_matches t symbol) (whole_rows Maps t) e k l
       (simp (ne_eqb (map_symbol t k) none_number o) (eq-eqb (map_symbol t k) symbol s))
 
   pub record MapSectionFound (home k : ℕ) : Type 0 where
@@ -202,5 +202,5 @@ module _ (t : List ℕ) where
       → (k : ℕ) → k < whole_rows Maps t → map_section t k ≡ home → map_symbol t k ≡ none_number → ⊥
   unfolding map_of_section
   map_section_missing home e k l s o =
-      row_missing (map_section_matches t home) (whole_rows Maps t) e k l
+      row_missing_lem (map_section_matches t home) (whole_rows Maps t) e k l
       (and_both _ _ (eq-eqb (map_section t k) home s) (simp (eq-eqb (map_symbol t k) none_number o)))

@@ -2,7 +2,6 @@
 ghost use Rattle.std.specs.Prelude.{◌≡◌, ◌+◌, ◌*◌, ◌≤◌, length};
 ghost use Rattle.rules.specs.declared.Table.TheVariants.{Code, Symbols, Functions, Relocations, Maps};
 ghost use Rattle.rules.specs.Rows.{row_size, whole_rows};
-ghost use Rattle.rules.specs.Lent.{was};
 ghost use Rattle.rules.specs.Lookups.{Sound, found_of};
 ghost use Rattle.rules.specs.Lookups.{is_code_section, symbol_with, function_with, relocation_with, relocations_before, map_with_symbol, map_of_section};
 ghost use Rattle.rows.specs.Matches.{function_matches, relocation_matches, relocation_is_before};
@@ -18,7 +17,7 @@ use rules::{ByteOffset, Found};
 
 fn is_function(t: &[u8], k: usize, home: u32, address: i64) -> bool
     requires { row_size Functions * k + row_size Functions ≤ length t.now }
-    ensures { result ≡ function_matches (was t) home address k }
+    ensures { result ≡ function_matches t.now home address k }
 {
     let section = function_section(t, k);
     if address < 0 {
@@ -30,7 +29,7 @@ fn is_function(t: &[u8], k: usize, home: u32, address: i64) -> bool
 
 pub fn is_relocation(t: &[u8], k: usize, home: u32, offset: ByteOffset) -> bool
     requires { row_size Relocations * k + row_size Relocations ≤ length t.now }
-    ensures { result ≡ relocation_matches (was t) home offset.0 k }
+    ensures { result ≡ relocation_matches t.now home offset.0 k }
 {
     same_place(
         relocation_section(t, k),
@@ -42,7 +41,7 @@ pub fn is_relocation(t: &[u8], k: usize, home: u32, offset: ByteOffset) -> bool
 
 pub fn is_relocation_before(t: &[u8], k: usize, home: u32, offset: ByteOffset) -> bool
     requires { row_size Relocations * k + row_size Relocations ≤ length t.now }
-    ensures { result ≡ relocation_is_before (was t) home offset.0 k }
+    ensures { result ≡ relocation_is_before t.now home offset.0 k }
 {
     is_before(
         relocation_section(t, k),
@@ -54,7 +53,7 @@ pub fn is_relocation_before(t: &[u8], k: usize, home: u32, offset: ByteOffset) -
 
 fn is_map_with(t: &[u8], k: usize, symbol: u32) -> bool
     requires { row_size Maps * k + row_size Maps ≤ length t.now }
-    ensures { result ≡ map_symbol_matches (was t) symbol k }
+    ensures { result ≡ map_symbol_matches t.now symbol k }
 {
     let own = map_symbol(t, k);
     if own == NONE {
@@ -65,7 +64,7 @@ fn is_map_with(t: &[u8], k: usize, symbol: u32) -> bool
 
 fn is_map_of(t: &[u8], k: usize, home: u32) -> bool
     requires { row_size Maps * k + row_size Maps ≤ length t.now }
-    ensures { result ≡ map_section_matches (was t) home k }
+    ensures { result ≡ map_section_matches t.now home k }
 {
     let own = map_symbol(t, k);
     if map_section(t, k) != home {
@@ -76,7 +75,7 @@ fn is_map_of(t: &[u8], k: usize, home: u32) -> bool
 
 pub fn is_code(t: &[u8], home: u32) -> bool
     requires { Sound Code t.now }
-    ensures { result ≡ is_code_section (was t) home }
+    ensures { result ≡ is_code_section t.now home }
 {
     let n = t.len() / CODE_SIZE;
     let mut k = 0;
@@ -91,7 +90,7 @@ pub fn is_code(t: &[u8], home: u32) -> bool
 
 pub fn find_symbol(t: &[u8], index: u32) -> Found
     requires { Sound Symbols t.now }
-    ensures { result ≡ found_of (symbol_with (was t) index) }
+    ensures { result ≡ found_of (symbol_with t.now index) }
 {
     let n = t.len() / SYMBOL_SIZE;
     let mut k = 0;
@@ -106,7 +105,7 @@ pub fn find_symbol(t: &[u8], index: u32) -> Found
 
 pub fn find_function(t: &[u8], home: u32, address: i64) -> Found
     requires { Sound Functions t.now }
-    ensures { result ≡ found_of (function_with (was t) home address) }
+    ensures { result ≡ found_of (function_with t.now home address) }
 {
     let n = t.len() / FUNCTION_SIZE;
     let mut k = 0;
@@ -121,7 +120,7 @@ pub fn find_function(t: &[u8], home: u32, address: i64) -> Found
 
 pub fn find_relocation(t: &[u8], home: u32, offset: ByteOffset) -> Found
     requires { Sound Relocations t.now }
-    ensures { result ≡ found_of (relocation_with (was t) home offset.0) }
+    ensures { result ≡ found_of (relocation_with t.now home offset.0) }
 {
     let n = t.len() / RELOCATION_SIZE;
     let mut k = 0;
@@ -137,7 +136,7 @@ pub fn find_relocation(t: &[u8], home: u32, offset: ByteOffset) -> Found
 // How many relocations stand before (home, offset), by halving.
 pub fn relocations_before(t: &[u8], home: u32, offset: ByteOffset) -> usize
     requires { Sound Relocations t.now }
-    ensures { (result ≡ relocations_before (was t) home offset.0) × (result ≤ whole_rows Relocations (was t)) }
+    ensures { (result ≡ relocations_before t.now home offset.0) × (result ≤ whole_rows Relocations t.now) }
 {
     let mut low = 0;
     let mut high = t.len() / RELOCATION_SIZE;
@@ -154,7 +153,7 @@ pub fn relocations_before(t: &[u8], home: u32, offset: ByteOffset) -> usize
 
 pub fn find_map_symbol(t: &[u8], symbol: u32) -> Found
     requires { Sound Maps t.now }
-    ensures { result ≡ found_of (map_with_symbol (was t) symbol) }
+    ensures { result ≡ found_of (map_with_symbol t.now symbol) }
 {
     let n = t.len() / MAP_SIZE;
     let mut k = 0;
@@ -169,7 +168,7 @@ pub fn find_map_symbol(t: &[u8], symbol: u32) -> Found
 
 pub fn find_map_section(t: &[u8], home: u32) -> Found
     requires { Sound Maps t.now }
-    ensures { result ≡ found_of (map_of_section (was t) home) }
+    ensures { result ≡ found_of (map_of_section t.now home) }
 {
     let n = t.len() / MAP_SIZE;
     let mut k = 0;

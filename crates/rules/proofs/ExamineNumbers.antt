@@ -102,9 +102,9 @@ module _ (tables : Tables) (claim : Claim) where
       tested (ltb (at + j) (length claim.functions)
       && same_function_record (get_or claim.functions (at + j) no_function_record) (get_or (piece_functions tables claim k p) j no_function_record)) _ (λ e. omega arith) nothing
 
-  line_of_lem : (k at : ℕ) (p : Piece) (j : ℕ) → NotZero (line_wrong tables claim k at p j)
+  line_record_of : (k at : ℕ) (p : Piece) (j : ℕ) → NotZero (line_wrong tables claim k at p j)
   unfolding line_wrong
-  line_of_lem k at p j =
+  line_record_of k at p j =
       tested (ltb (at + j) (length claim.lines) && same_line_record (get_or claim.lines (at + j) no_line_record) (get_or (piece_lines tables claim k p) j no_line_record)) _ (λ e. omega arith) nothing
 
   piece_of : (k f l : ℕ) (p : Piece) → NotZero (wrong_in tables claim k f l p)
@@ -112,7 +112,7 @@ module _ (tables : Tables) (claim : Claim) where
   piece_of k f l p =
       either_of (slots k p)
       (either_of (first_of (function_wrong tables claim k f p) 0 (length (function_records_of tables p.row)) (function_of k f p))
-      (either_of (strays k p) (first_of (line_wrong tables claim k l p) 0 (length (lines_of tables p.row)) (line_of_lem k l p))))
+      (either_of (strays k p) (first_of (line_wrong tables claim k l p) 0 (length (lines_of tables p.row)) (line_record_of k l p))))
 
   pieces : (k f l : ℕ) (ps : List Piece) → NotZero (pieces_wrong tables claim k f l ps)
   unfolding pieces_wrong over_wrong

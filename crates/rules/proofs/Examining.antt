@@ -22,7 +22,7 @@ use Rattle.rules.specs.Examine.{Shown, Claim, claim_of, list_number, sizes_wrong
 use Rattle.rules.proofs.Linking.{length_run}
 use Rattle.rules.proofs.Writing.{decoded_length}
 use Rattle.rules.proofs.Passed.{good_function}
-use Rattle.rules.proofs.Refusing.{link_checked_lem}
+use Rattle.rules.proofs.Refusing.{link_checked}
 use Rattle.rules.proofs.Reading.{rows_are, row_is}
 use Rattle.rules.proofs.ExamineLaws.{chain, pair, leb_is, or_none_lem, cond_none, test_none, first_none, all_same, Each, each_is, size_none}
 use Rattle.rules.proofs.ExamineSlots.{root_none, tiles_none, link_none}
@@ -189,7 +189,7 @@ module _ (order : Order) (o : Offered) (root : ℕ) (s : Shown) where
   unfolding object_of
   has_slot e row l =
       let inside : row < whole_rows Functions o.functions = omega (arith, rows_are order o) in
-      let good = good_function o.functions (link_checked_lem o root e).tables.functions row inside in
+      let good = good_function o.functions (link_checked o root e).tables.functions row inside in
       rw (row_is order o row inside) good.slots_low
 
   list_few : Accepted order o root s → length s.pieces ≤ piece_size * most_image_slots

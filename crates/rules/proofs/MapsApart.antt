@@ -48,7 +48,7 @@ module _ (tables : Tables) where
       go true true p q e =
           let low = leb-true (row_of tables t.row).offset t.relocation.offset p in
           let high = ltb-true t.relocation.offset ((row_of tables t.row).offset + 8 * (row_of tables t.row).slots) q in
-          let grid : (t.relocation.offset - (row_of tables t.row).offset) % 8 ≡ 0 = eqb-true ((t.relocation.offset - (row_of tables t.row).offset) % 8) 0 live.on_grid_lem in
+          let grid : (t.relocation.offset - (row_of tables t.row).offset) % 8 ≡ 0 = eqb-true ((t.relocation.offset - (row_of tables t.row).offset) % 8) 0 live.on_the_grid in
           record { slot_below = omega arith; offset_is = omega arith }
       go true false p q e = let z : ◌≡◌ {A = ℕ} 0 1 = cc in absurd (omega arith)
       go false b p q e = let z : ◌≡◌ {A = ℕ} 0 1 = cc in absurd (omega arith)

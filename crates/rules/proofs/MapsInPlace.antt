@@ -86,7 +86,7 @@ module _ (tables : Tables) where
   -- a relocation of the function, on the grid: only such have a slot
   pub record Live (t : Task) : Type 0 where
     pub in_bytes : inside (row_of tables t.row) t.relocation ≡ true
-    pub on_grid_lem : on_grid (row_of tables t.row) t.relocation ≡ true
+    pub on_the_grid : on_grid (row_of tables t.row) t.relocation ≡ true
 
   -- no two tasks have one slot
   abbrev pub Apart : List Task → Type 0
@@ -163,7 +163,7 @@ module _ (tables : Tables) where
           rw (wide_same orig now t.row (task_slot tables t) kept.like)
           (symbol_same (symbol_of tables t.relocation) t.relocation.symbol (slot_in tables orig t.row (task_slot tables t)) (slot_in tables now t.row (task_slot tables t))
           (is_wide tables orig t.row (task_slot tables t)) (like_call (kept.like (place tables t)))
-          (λ w. ap (λ i. i.immediate) (kept.fresh t (Memᴰ.head refl) (record { in_bytes = p; on_grid_lem = q }) (wide_is orig t.row (task_slot tables t) w).load)))
+          (λ w. ap (λ i. i.immediate) (kept.fresh t (Memᴰ.head refl) (record { in_bytes = p; on_the_grid = q }) (wide_is orig t.row (task_slot tables t) w).load)))
       go true false p q = refl
       go false b p q = refl
 
@@ -205,7 +205,7 @@ module _ (tables : Tables) where
           → cond a (cond b (by_symbol tables (symbol_of tables t.relocation) t.relocation.symbol (slot_in tables image t.row (task_slot tables t))
           (is_wide tables image t.row (task_slot tables t))) (refused 4)) skipped ≡ applies c → Applies image t
       go true true p q e = record {
-        live = record { in_bytes = p; on_grid_lem = q };
+        live = record { in_bytes = p; on_the_grid = q };
         wide = wide_is image t.row (task_slot tables t)
             (symbol_applies (symbol_of tables t.relocation) t.relocation.symbol (slot_in tables image t.row (task_slot tables t)) (is_wide tables image t.row (task_slot tables t)) c e);
       }

@@ -25,7 +25,7 @@ use Rattle.rules.proofs.Lookups.{names_rows}
 use Rattle.rules.proofs.Linking.{link_faithful}
 use Rattle.rules.proofs.Invariant.{Goes, link_keeps, link_keeps_to}
 use Rattle.rules.proofs.Passed.{good_function}
-use Rattle.rules.proofs.Refusing.{link_checked_lem, root_is_row}
+use Rattle.rules.proofs.Refusing.{link_checked, root_is_row}
 use Rattle.rules.proofs.Reading.{rows_are, row_is}
 
 -- what has a start keeps it
@@ -114,7 +114,7 @@ module _ (order : Order) (o : Offered) (root : ℕ) (ok : link_refusal o root �
   unfolding object_of
   rows_filled row l =
       let inside : row < whole_rows Functions o.functions = subst (λ (n : ℕ). row < n) (rows_are order o) l in
-      subst (λ f. 1 ≤ f.slots) (sym (row_is order o row inside)) (good_function o.functions (link_checked_lem o root ok).tables.functions row inside).slots_low
+      subst (λ f. 1 ≤ f.slots) (sym (row_is order o row inside)) (good_function o.functions (link_checked o root ok).tables.functions row inside).slots_low
 
   pub root_row : root < (object_of (tables_of order o)).rows
   unfolding object_of

@@ -151,9 +151,9 @@ module _ (o : Offered) (root : ℕ) (e : link_refusal o root ≡ none) where
   whole_root : (broken o link_tables ≡ none) × (no_root o root ≡ none)
   whole_root = or_none_lem (broken o link_tables) (no_root o root) few_whole.1
 
-  pub link_checked_lem : LinkChecked o
+  pub link_checked : LinkChecked o
   unfolding broken_in
-  link_checked_lem =
+  link_checked =
       let few = all_few o link_tables few_whole.0 in
       let ok = all_whole o link_tables whole_root.0 in
       record {

@@ -1,8 +1,10 @@
 // The plain types that definitions and code share. Nothing here decides anything.
+#![tactic(auto)]
+
 pub mod limits; // limits.rt: sizes and limits
 
 // Document 01's eight tables, in its order.
-#[derive(Drop)]
+#[derive(Clone, Copy)]
 pub enum Table {
     Code,
     Symbols,
@@ -15,22 +17,22 @@ pub enum Table {
 }
 
 // A row of a table, or none.
-#[derive(Drop)]
+#[derive(Clone, Copy)]
 pub enum Found {
     At(usize),
     Nothing,
 }
 
 // A count of slots: eight bytes each.
-#[derive(Drop)]
+#[derive(Clone, Copy)]
 pub struct Slot(pub u32);
 
 // A count of bytes from a section's start.
-#[derive(Drop)]
+#[derive(Clone, Copy)]
 pub struct ByteOffset(pub u64);
 
 // What an opcode does to the walk.
-#[derive(Drop)]
+#[derive(Clone, Copy)]
 pub enum Kind {
     Plain,
     WideLoad,
@@ -43,12 +45,12 @@ pub enum Kind {
 }
 
 // The place numbers of an answer.
-#[derive(Drop)]
+#[derive(Clone, Copy)]
 pub struct Places(pub u32, pub u32, pub u32);
 
 // Why an entry refuses, in the order of the numbers, with the places that it names; those not named are 0. Document 01's are 1 to 14; names
 // are the crate's where it has the error.
-#[derive(Drop)]
+#[derive(Clone, Copy)]
 pub enum Cause {
     // table
     TooManyRows,
@@ -97,14 +99,14 @@ pub enum Cause {
     RecordsOver,
 }
 
-#[derive(Drop)]
+#[derive(Clone, Copy)]
 pub struct Refusal {
     pub cause: Cause,
     pub places: Places,
 }
 
 // What an entry answers.
-#[derive(Drop)]
+#[derive(Clone, Copy)]
 pub enum Answer {
     // link: slots, function records, line records; map step: relocations applied; readers: records
     Done(Places),
@@ -112,7 +114,7 @@ pub enum Answer {
 }
 
 // What a check says, or a step that goes on where nothing is refused.
-#[derive(Drop)]
+#[derive(Clone, Copy)]
 pub enum Judgement {
     Passes,
     Refused(Refusal),

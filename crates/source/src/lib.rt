@@ -1,8 +1,9 @@
 // The source walk of demand 3: over the functions of the tables, each callee found by section and address.
+#![tactic(auto)]
 ghost use Rattle.std.specs.Prelude.{◌≡◌, ◌<◌, pos};
 ghost use Rattle.rules.specs.declared.Table.TheVariants.{Functions};
 ghost use Rattle.rules.specs.Answers.{refusal_in};
-ghost use Rattle.rules.specs.Lent.{was, offered_code, lent_code};
+ghost use Rattle.rules.specs.Lent.{offered_code, lent_code};
 ghost use Rattle.rules.specs.Object as object;
 ghost use Rattle.rules.specs.Rows.{whole_rows, summed, function_slots};
 ghost use Rattle.rules.specs.Lookups.{Sound};
@@ -23,7 +24,7 @@ use tables::checks::{check_map_step, or_no_root};
 use walk::{Move, leads_at, slot_in};
 
 // Where a slot of a function leads: a jump stays in its function.
-#[derive(Drop)]
+#[derive(Clone, Copy)]
 pub enum SourceMove {
     Outside,
     Goes(i64),
@@ -36,7 +37,7 @@ pub enum SourceMove {
 }
 
 // A walk's state: the row and the slot, how many frames and how many answers are used.
-#[derive(Drop)]
+#[derive(Clone, Copy)]
 pub enum SourceStand {
     Standing(usize, i64, usize, usize),
     Stopped(usize, i64, usize),
@@ -46,7 +47,7 @@ pub enum SourceStand {
     NoFrame,
 }
 
-#[derive(Drop)]
+#[derive(Clone, Copy)]
 pub enum SourceRun {
     Came(SourceStand),
     // 1, 2 or 13, as the link refuses
@@ -55,7 +56,7 @@ pub enum SourceRun {
 
 // What is no row of table 3 has no slots.
 pub fn slots_of(functions: &[u8], row: usize) -> u32
-    ensures { result ≡ slots_in (was functions) row }
+    ensures { result ≡ slots_in functions.now row }
 {
     if row >= functions.len() / FUNCTION_SIZE {
         return 0;
@@ -67,7 +68,7 @@ pub fn slots_of(functions: &[u8], row: usize) -> u32
 // Where a row's slots begin in table 6.
 pub fn first_slot(functions: &[u8], row: usize) -> Slot
     requires { Sound Functions functions.now × (row < whole_rows Functions functions.now) }
-    ensures { result.0 ≡ summed (function_slots (was functions)) 0 row }
+    ensures { result.0 ≡ summed (function_slots functions.now) 0 row }
 {
     let mut first: u32 = 0;
     let mut k = 0;
@@ -90,8 +91,8 @@ pub fn callee(
     first: Slot,
     slot: Slot,
 ) -> Found
-    requires { Slotted (offered_code code symbols functions relocations instructions) row first.0 slot.0 }
-    ensures { result ≡ called_by (object.meaning (object_in (lent_code code symbols functions relocations instructions)) row slot.0) }
+    requires { Slotted (offered_code code.now symbols.now functions.now relocations.now instructions.now) row first.0 slot.0 }
+    ensures { result ≡ called_by (object.meaning (object_in (lent_code code.now symbols.now functions.now relocations.now instructions.now)) row slot.0) }
 {
     let at = place(function_offset(functions, row), slot);
     let rel = find_relocation(relocations, function_section(functions, row), at);
@@ -147,10 +148,10 @@ pub fn move_at(
     first: Slot,
     slot: Slot,
 ) -> SourceMove
-    requires { Source kinds.now (offered_code code symbols functions relocations instructions)
-        × Slotted (offered_code code symbols functions relocations instructions) row first.0 slot.0 }
+    requires { Source kinds.now (offered_code code.now symbols.now functions.now relocations.now instructions.now)
+        × Slotted (offered_code code.now symbols.now functions.now relocations.now instructions.now) row first.0 slot.0 }
     ensures { move_from row result
-        ≡ in_source (object_in (lent_code code symbols functions relocations instructions)) (walks.place row (pos slot.0)) }
+        ≡ in_source (object_in (lent_code code.now symbols.now functions.now relocations.now instructions.now)) (walks.place row (pos slot.0)) }
 {
     let led = leads_at(kinds, instructions, after(first, slot), slot);
     match led {
@@ -195,8 +196,8 @@ pub fn source_move(
     row: usize,
     at: i64,
 ) -> SourceMove
-    requires { Source kinds.now (offered_code code symbols functions relocations instructions) }
-    ensures { move_from row result ≡ in_source (object_in (lent_code code symbols functions relocations instructions)) (walks.place row at) }
+    requires { Source kinds.now (offered_code code.now symbols.now functions.now relocations.now instructions.now) }
+    ensures { move_from row result ≡ in_source (object_in (lent_code code.now symbols.now functions.now relocations.now instructions.now)) (walks.place row at) }
 {
     let found = slot_in(at, slots_of(functions, row));
     match found {
@@ -220,7 +221,7 @@ pub fn source_move(
 }
 
 pub fn arrive(functions: &[u8], row: usize, at: i64, depth: usize, taken: usize) -> SourceStand
-    ensures { result ≡ arrived_at (slots_in (was functions) row) row at depth taken }
+    ensures { result ≡ arrived_at (slots_in functions.now row) row at depth taken }
 {
     let found = slot_in(at, slots_of(functions, row));
     match found {
@@ -235,7 +236,7 @@ pub fn arrive(functions: &[u8], row: usize, at: i64, depth: usize, taken: usize)
 
 // A call for which there is no frame.
 pub fn frameless(functions: &[u8], row: usize) -> SourceStand
-    ensures { result ≡ frameless_at (slots_in (was functions) row) }
+    ensures { result ≡ frameless_at (slots_in functions.now row) }
 {
     if slots_of(functions, row) == 0 {
         return SourceStand::Left;
@@ -256,9 +257,9 @@ fn go_on(
     taken: usize,
 ) -> SourceStand
     requires { Fitting (frames_of frame_rows.old frame_slots.old) answers.now depth taken }
-    ensures { WentOn (was functions) found
-        (frames_of (was frame_rows) (was frame_slots)) (frames_of frame_rows.new frame_slots.new)
-        (was answers) row at depth taken result }
+    ensures { WentOn functions.now found
+        (frames_of frame_rows.old frame_slots.old) (frames_of frame_rows.new frame_slots.new)
+        answers.now row at depth taken result }
 {
     match found {
         SourceMove::Outside => {
@@ -315,11 +316,11 @@ pub fn source_step(
     depth: usize,
     taken: usize,
 ) -> SourceStand
-    requires { Source kinds.now (offered_code code symbols functions relocations instructions)
+    requires { Source kinds.now (offered_code code.now symbols.now functions.now relocations.now instructions.now)
         × Fitting (frames_of frame_rows.old frame_slots.old) answers.now depth taken }
-    ensures { SourceStepped (lent_code code symbols functions relocations instructions)
-        (frames_of (was frame_rows) (was frame_slots)) (frames_of frame_rows.new frame_slots.new)
-        (was answers) row at depth taken result }
+    ensures { SourceStepped (lent_code code.now symbols.now functions.now relocations.now instructions.now)
+        (frames_of frame_rows.old frame_slots.old) (frames_of frame_rows.new frame_slots.new)
+        answers.now row at depth taken result }
 {
     let found = source_move(
         kinds,
@@ -358,10 +359,10 @@ pub fn source_run(
     root: usize,
     limit: usize,
 ) -> SourceStand
-    requires { Source kinds.now (offered_code code symbols functions relocations instructions) }
-    ensures { SourceRan (lent_code code symbols functions relocations instructions) root
-        (frames_of (was frame_rows) (was frame_slots)) (frames_of frame_rows.new frame_slots.new)
-        (was answers) limit result }
+    requires { Source kinds.now (offered_code code.now symbols.now functions.now relocations.now instructions.now) }
+    ensures { SourceRan (lent_code code.now symbols.now functions.now relocations.now instructions.now) root
+        (frames_of frame_rows.old frame_slots.old) (frames_of frame_rows.new frame_slots.new)
+        answers.now limit result }
 {
     if slots_of(functions, root) == 0 {
         return SourceStand::Left;
@@ -408,7 +409,7 @@ pub fn check_source(
     instructions: &[u8],
     root: u32,
 ) -> Judgement
-    ensures { refusal_in result ≡ walk_refusal (lent_code code symbols functions relocations instructions) root }
+    ensures { refusal_in result ≡ walk_refusal (lent_code code.now symbols.now functions.now relocations.now instructions.now) root }
 {
     let none = [0u8; 1];
     let checked = check_map_step(
@@ -438,9 +439,9 @@ pub fn walk_source(
     answers: &[u8],
     limit: usize,
 ) -> SourceRun
-    ensures { SourceWalked (lent_code code symbols functions relocations instructions) root
-        (frames_of (was frame_rows) (was frame_slots)) (frames_of frame_rows.new frame_slots.new)
-        (was answers) limit result }
+    ensures { SourceWalked (lent_code code.now symbols.now functions.now relocations.now instructions.now) root
+        (frames_of frame_rows.old frame_slots.old) (frames_of frame_rows.new frame_slots.new)
+        answers.now limit result }
 {
     let checked = check_source(code, symbols, functions, relocations, instructions, root);
     match checked {

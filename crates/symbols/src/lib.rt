@@ -1,8 +1,8 @@
 // Table 2 lent as a slice of rows: searched by index with the byte table's answers, and laid out as that byte table.
+#![tactic(auto)]
 ghost use Rattle.std.specs.Prelude.{◌≡◌, ◌+◌, ◌*◌, ◌≤◌, length};
 ghost use Rattle.rules.specs.declared.Table.TheVariants.{Symbols};
 ghost use Rattle.rules.specs.Bytes.{splice};
-ghost use Rattle.rules.specs.Lent.{was};
 ghost use Rattle.rules.specs.Rows.{row_size};
 ghost use Rattle.rules.specs.Lookups.{found_of, symbol_with};
 ghost use Rattle.symbols.specs.Symbols.{bytes8, row_bytes, bytes_of, rows_needed, rows_room, laid_in};
@@ -13,7 +13,7 @@ use wire::{copy, put_u32};
 
 // A row of table 2. C's layout of it on a little-endian host is the row's bytes.
 #[repr(C)]
-#[derive(Drop)]
+#[derive(Clone, Copy)]
 pub struct Symbol {
     pub index: u32,
     pub section: u32,
@@ -26,7 +26,7 @@ const PADDING: usize = 7;
 
 fn put_u64(out: &mut [u8], at: usize, v: u64)
     requires { at + 8 ≤ length out.old }
-    ensures { out.new ≡ splice (was out) at (bytes8 v) }
+    ensures { out.new ≡ splice out.old at (bytes8 v) }
 {
     put_u32(out, at, (v % 4294967296) as u32);
     put_u32(out, at + 4, (v / 4294967296) as u32);
@@ -35,7 +35,7 @@ fn put_u64(out: &mut [u8], at: usize, v: u64)
 // Row k of the byte table.
 pub fn put_row(out: &mut [u8], k: usize, s: Symbol)
     requires { row_size Symbols * k + row_size Symbols ≤ length out.old }
-    ensures { out.new ≡ splice (was out) (row_size Symbols * k) (row_bytes s) }
+    ensures { out.new ≡ splice out.old (row_size Symbols * k) (row_bytes s) }
 {
     let at = SYMBOL_SIZE * k;
     put_u32(out, at, s.index);
@@ -61,7 +61,7 @@ fn rows_needed(count: usize) -> usize
 
 // The first row with the index: what the byte table of the same rows answers.
 pub fn find_rows(rows: &[Symbol], index: u32) -> Found
-    ensures { result ≡ found_of (symbol_with (bytes_of (was rows)) index) }
+    ensures { result ≡ found_of (symbol_with (bytes_of rows.now) index) }
 {
     let mut i = 0;
     while i < rows.len() {
@@ -76,7 +76,7 @@ pub fn find_rows(rows: &[Symbol], index: u32) -> Found
 // The rows that a link has to see as the byte table, from the start of `out` on, and how many they are.
 pub fn lay_rows(rows: &[Symbol], out: &mut [u8]) -> usize
     requires { rows_room ≤ length out.old }
-    ensures { (result ≡ rows_needed (length (was rows))) × (out.new ≡ laid_in (was rows) (was out)) }
+    ensures { (result ≡ rows_needed (length rows.now)) × (out.new ≡ laid_in rows.now out.old) }
 {
     let n = rows_needed(rows.len());
     let mut i = 0;

@@ -2,7 +2,7 @@
 ghost use Rattle.std.specs.Prelude.{◌≡◌, false};
 ghost use Rattle.rules.specs.declared.Table.TheVariants.{Functions};
 ghost use Rattle.rules.specs.Answers.{refusal_in};
-ghost use Rattle.rules.specs.Lent.{was, lent, lent_maps};
+ghost use Rattle.rules.specs.Lent.{lent, lent_maps};
 ghost use Rattle.rules.specs.Rows.{is_too_many, first_broken, or_broken, map_step_refusal, link_refusal};
 ghost use Rattle.tables.specs.Folds.{or_too_many, or_wrong_total, or_no_root};
 
@@ -14,7 +14,7 @@ use rules::limits::FUNCTION_SIZE;
 use rules::{Cause, Found, Judgement, Table};
 
 pub fn or_too_many(table: Table, t: &[u8], later: Judgement) -> Judgement
-    ensures { refusal_in result ≡ or_too_many (is_too_many table (was t)) table (refusal_in later) }
+    ensures { refusal_in result ≡ or_too_many (is_too_many table t.now) table (refusal_in later) }
 {
     if too_many(table, t) {
         return Judgement::Refused(refusal(Cause::TooManyRows, table_number(table), 0));
@@ -25,7 +25,7 @@ pub fn or_too_many(table: Table, t: &[u8], later: Judgement) -> Judgement
 // The row's number fits, since the rows are few.
 pub fn or_broken(table: Table, t: &[u8], later: Judgement) -> Judgement
     requires { is_too_many table t.now ≡ false }
-    ensures { refusal_in result ≡ or_broken (first_broken table (was t)) table (refusal_in later) }
+    ensures { refusal_in result ≡ or_broken (first_broken table t.now) table (refusal_in later) }
 {
     let Found::At(k) = first_broken(table, t) else {
         return later;
@@ -35,7 +35,7 @@ pub fn or_broken(table: Table, t: &[u8], later: Judgement) -> Judgement
 
 pub fn or_wrong_total(table: Table, t: &[u8], functions: &[u8], later: Judgement) -> Judgement
     requires { is_too_many Functions functions.now ≡ false }
-    ensures { refusal_in result ≡ or_wrong_total table (was t) (was functions) (refusal_in later) }
+    ensures { refusal_in result ≡ or_wrong_total table t.now functions.now (refusal_in later) }
 {
     let bytes = row_size(table) as u64 * total(table, functions);
     if t.len() as u64 == bytes {
@@ -45,7 +45,7 @@ pub fn or_wrong_total(table: Table, t: &[u8], functions: &[u8], later: Judgement
 }
 
 pub fn or_no_root(functions: &[u8], root: u32) -> Judgement
-    ensures { refusal_in result ≡ or_no_root (was functions) root }
+    ensures { refusal_in result ≡ or_no_root functions.now root }
 {
     if (root as usize) < functions.len() / FUNCTION_SIZE {
         return Judgement::Passes;
@@ -61,7 +61,7 @@ pub fn check_map_step(
     maps: &[u8],
     instructions: &[u8],
 ) -> Judgement
-    ensures { refusal_in result ≡ map_step_refusal (lent_maps code symbols functions relocations maps instructions) }
+    ensures { refusal_in result ≡ map_step_refusal (lent_maps code.now symbols.now functions.now relocations.now maps.now instructions.now) }
 {
     let few = or_too_many(Table::Instructions, instructions, Judgement::Passes);
     let few = or_too_many(Table::Maps, maps, few);
@@ -95,7 +95,7 @@ pub fn check_link(
     line_info: &[u8],
     root: u32,
 ) -> Judgement
-    ensures { refusal_in result ≡ link_refusal (lent code symbols functions relocations instructions func_info line_info) root }
+    ensures { refusal_in result ≡ link_refusal (lent code.now symbols.now functions.now relocations.now instructions.now func_info.now line_info.now) root }
 {
     let few = or_too_many(Table::LineInfo, line_info, Judgement::Passes);
     let few = or_too_many(Table::FuncInfo, func_info, few);

@@ -1,7 +1,6 @@
 // Whether row k of a table is good. Every test of a row is made, without a branch.
 ghost use Rattle.std.specs.Prelude.{◌≡◌, not, ◌||◌, ◌+◌, ◌*◌, ◌-◌, ◌≤◌, ◌<◌, eqb, ltb, length};
 ghost use Rattle.rules.specs.declared.Table.TheVariants.{Code, Symbols, Functions, Relocations, Maps};
-ghost use Rattle.rules.specs.Lent.{was};
 ghost use Rattle.rules.specs.Rows.{row_size, is_section, is_section_or_none, is_address, same_map, any_from, is_good};
 
 use rows::fields::{
@@ -47,7 +46,7 @@ fn previous(k: usize) -> usize
 
 fn code_good(t: &[u8], k: usize) -> bool
     requires { row_size Code * k + row_size Code ≤ length t.now }
-    ensures { result ≡ is_good Code (was t) k }
+    ensures { result ≡ is_good Code t.now k }
 {
     let section = code_section(t, k);
     let last = code_section(t, previous(k));
@@ -56,7 +55,7 @@ fn code_good(t: &[u8], k: usize) -> bool
 
 fn symbol_good(t: &[u8], k: usize) -> bool
     requires { row_size Symbols * k + row_size Symbols ≤ length t.now }
-    ensures { result ≡ is_good Symbols (was t) k }
+    ensures { result ≡ is_good Symbols t.now k }
 {
     let index = symbol_index(t, k);
     let last = symbol_index(t, previous(k));
@@ -70,7 +69,7 @@ fn symbol_good(t: &[u8], k: usize) -> bool
 
 fn function_good(t: &[u8], k: usize) -> bool
     requires { row_size Functions * k + row_size Functions ≤ length t.now }
-    ensures { result ≡ is_good Functions (was t) k }
+    ensures { result ≡ is_good Functions t.now k }
 {
     let section = function_section(t, k);
     let slots = function_slots(t, k);
@@ -94,7 +93,7 @@ fn function_good(t: &[u8], k: usize) -> bool
 
 fn relocation_good(t: &[u8], k: usize) -> bool
     requires { row_size Relocations * k + row_size Relocations ≤ length t.now }
-    ensures { result ≡ is_good Relocations (was t) k }
+    ensures { result ≡ is_good Relocations t.now k }
 {
     let section = relocation_section(t, k);
     let offset = relocation_offset(t, k);
@@ -115,7 +114,7 @@ fn relocation_good(t: &[u8], k: usize) -> bool
 // One symbol in both rows, or none in both and one section.
 fn same_map(t: &[u8], j: usize, k: usize) -> bool
     requires { (j < k) × (row_size Maps * k + row_size Maps ≤ length t.now) }
-    ensures { result ≡ same_map (was t) j k }
+    ensures { result ≡ same_map t.now j k }
 {
     let symbol = map_symbol(t, k);
     (map_symbol(t, j) == symbol) & ((symbol != NONE) | (map_section(t, j) == map_section(t, k)))
@@ -123,7 +122,7 @@ fn same_map(t: &[u8], j: usize, k: usize) -> bool
 
 fn is_doubled(t: &[u8], k: usize) -> bool
     requires { row_size Maps * k + row_size Maps ≤ length t.now }
-    ensures { result ≡ any_from (λ j. same_map (was t) j k) 0 k }
+    ensures { result ≡ any_from (λ j. same_map t.now j k) 0 k }
 {
     let mut j = 0;
     while j < k {
@@ -137,7 +136,7 @@ fn is_doubled(t: &[u8], k: usize) -> bool
 
 fn map_good(t: &[u8], k: usize) -> bool
     requires { row_size Maps * k + row_size Maps ≤ length t.now }
-    ensures { result ≡ is_good Maps (was t) k }
+    ensures { result ≡ is_good Maps t.now k }
 {
     is_section(map_section(t, k))
         & (map_has_data(t, k) <= HAS_DATA)
@@ -147,7 +146,7 @@ fn map_good(t: &[u8], k: usize) -> bool
 
 pub fn is_good(table: Table, t: &[u8], k: usize) -> bool
     requires { row_size table * k + row_size table ≤ length t.now }
-    ensures { result ≡ is_good table (was t) k }
+    ensures { result ≡ is_good table t.now k }
 {
     match table {
         Table::Code => code_good(t, k),

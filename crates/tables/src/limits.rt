@@ -1,6 +1,5 @@
 // Each table's size of a row, most rows and number.
 ghost use Rattle.std.specs.Prelude.{◌≡◌};
-ghost use Rattle.rules.specs.Lent.{was};
 ghost use Rattle.rules.specs.Rows.{row_size, most_rows, table_number, is_too_many};
 
 use rules::Table;
@@ -57,7 +56,7 @@ pub fn table_number(table: Table) -> u32
 
 // A partial row counts as one: more bytes than the most rows have.
 pub fn too_many(table: Table, t: &[u8]) -> bool
-    ensures { result ≡ is_too_many table (was t) }
+    ensures { result ≡ is_too_many table t.now }
 {
     row_size(table) * most_rows(table) < t.len()
 }

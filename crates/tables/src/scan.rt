@@ -1,7 +1,6 @@
 // The first broken or partial row of a table.
 ghost use Rattle.std.specs.Prelude.{◌≡◌};
 ghost use Rattle.rules.specs.Lookups.{found_of};
-ghost use Rattle.rules.specs.Lent.{was};
 ghost use Rattle.rules.specs.Rows.{first_broken};
 
 use crate::good::is_good;
@@ -9,7 +8,7 @@ use crate::limits::row_size;
 use rules::{Found, Table};
 
 pub fn first_broken(table: Table, t: &[u8]) -> Found
-    ensures { result ≡ found_of (first_broken table (was t)) }
+    ensures { result ≡ found_of (first_broken table t.now) }
 {
     let size = row_size(table);
     let n = t.len() / size;

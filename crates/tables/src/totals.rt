@@ -1,7 +1,6 @@
 // What table 3 adds up to.
 ghost use Rattle.std.specs.Prelude.{◌≡◌, ◌+◌, ◌*◌, ◌≤◌, ◌<◌, length};
 ghost use Rattle.rules.specs.declared.Table.TheVariants.{Functions};
-ghost use Rattle.rules.specs.Lent.{was};
 ghost use Rattle.rules.specs.Rows.{row_size, most_rows, whole_rows, function_slots, count_of, total};
 
 use rows::fields::{function_func_info, function_line_info, function_slots};
@@ -10,7 +9,7 @@ use rules::limits::FUNCTION_SIZE;
 
 fn slots_of(functions: &[u8], k: usize) -> u32
     requires { row_size Functions * k + row_size Functions ≤ length functions.now }
-    ensures { result ≡ function_slots (was functions) k }
+    ensures { result ≡ function_slots functions.now k }
 {
     let slots = function_slots(functions, k);
     slots.0
@@ -18,7 +17,7 @@ fn slots_of(functions: &[u8], k: usize) -> u32
 
 fn count_of(table: Table, functions: &[u8], k: usize) -> u32
     requires { row_size Functions * k + row_size Functions ≤ length functions.now }
-    ensures { result ≡ count_of table (was functions) k }
+    ensures { result ≡ count_of table functions.now k }
 {
     match table {
         Table::Instructions => slots_of(functions, k),
@@ -37,7 +36,7 @@ fn wide(x: u32) -> u64
 // As many counts as rows, each below 2^32.
 pub fn total(table: Table, functions: &[u8]) -> u64
     requires { whole_rows Functions functions.now ≤ most_rows Functions }
-    ensures { (result ≡ total table (was functions)) × (result ≤ 0x1_0000_0000 * most_rows Functions) }
+    ensures { (result ≡ total table functions.now) × (result ≤ 0x1_0000_0000 * most_rows Functions) }
 {
     let n = functions.len() / FUNCTION_SIZE;
     let mut sum = 0;

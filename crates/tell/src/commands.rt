@@ -2,7 +2,7 @@
 ghost use Rattle.std.specs.Prelude.{◌≡◌};
 ghost use Rattle.tell.specs.Commands.{same_bytes, command_in};
 
-#[derive(Drop)]
+#[derive(Clone, Copy)]
 pub enum Command {
     Link,
     Examine,

@@ -21,7 +21,7 @@ const NEW_LINE: u8 = b'^';
 const END: u8 = b'\n';
 
 // A line by value: its bytes, and how many of them are words.
-#[derive(Drop)]
+#[derive(Clone, Copy)]
 pub struct Words {
     pub bytes: [u8; LINE],
     pub used: usize,

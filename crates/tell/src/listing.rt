@@ -62,7 +62,7 @@ pub fn line_at(lines: &[u8], own: usize, start: u32, slot: u32) -> Found
     last_at(lines, LINE_INFO_SIZE, RECORD_SLOT, own, n, slot)
 }
 
-#[derive(Drop)]
+#[derive(Clone, Copy)]
 pub enum Source {
     Copy {
         function: u32,
@@ -99,7 +99,7 @@ pub fn source_at(pieces: &[u8], slot: u32) -> Source
     source_of(pieces, piece_at(pieces, slot), slot)
 }
 
-#[derive(Drop)]
+#[derive(Clone, Copy)]
 pub enum Line {
     At { file: u32, line: u32, column: u32 },
     Unknown,

@@ -12,7 +12,7 @@ use answers::{number, places};
 use rules::Answer;
 
 // An answer's number and its places.
-#[derive(Drop)]
+#[derive(Clone, Copy)]
 pub struct Told {
     pub number: u32,
     pub a: u32,
@@ -94,7 +94,7 @@ fn names_run(number: u32) -> bool
 }
 
 // Lines of the text, and three numbers to each.
-#[derive(Drop)]
+#[derive(Clone, Copy)]
 pub struct Sentence {
     pub lines: [usize; 5],
     pub numbers: [u32; 15],
@@ -153,7 +153,7 @@ pub fn of_part(file: usize, what: usize, table: u32, after: usize, a: u32, b: u3
     }
 }
 
-#[derive(Drop)]
+#[derive(Clone, Copy)]
 pub enum Number {
     Whole(u32),
     Not,

@@ -1,7 +1,7 @@
 // The two walks of demand 3: where a slot leads, and a walk's steps.
+#![tactic(auto)]
 ghost use Rattle.std.specs.Prelude.{◌≡◌, ◌+◌, ◌*◌, ◌≤◌, ◌<◌, pos, ◌+ℤ◌, length};
 ghost use Rattle.rules.specs.Bytes.{little, slot_in, slot_size};
-ghost use Rattle.rules.specs.Lent.{was};
 ghost use Rattle.rules.specs.Lookups.{found_of};
 ghost use Rattle.rules.specs.Walk.{in_image, within};
 ghost use Rattle.insn.specs.Kinds.{codes};
@@ -14,7 +14,7 @@ use rules::limits::{INSTRUCTION_SIZE, MOST_IMAGE_SLOTS};
 use rules::{Found, Kind, Slot};
 
 // Where a slot leads; places outside are places too.
-#[derive(Drop)]
+#[derive(Clone, Copy)]
 pub enum Move {
     Outside,
     Goes(i64),
@@ -27,7 +27,7 @@ pub enum Move {
 }
 
 // A walk's state: the place, how many frames and how many answers are used.
-#[derive(Drop)]
+#[derive(Clone, Copy)]
 pub enum Stand {
     Standing(i64, usize, usize),
     Stopped(i64, usize),
@@ -37,7 +37,7 @@ pub enum Stand {
     NoFrame,
 }
 
-#[derive(Drop)]
+#[derive(Clone, Copy)]
 pub enum ImageRun {
     Came(Stand),
     // more slots than an image may hold
@@ -54,7 +54,7 @@ pub fn ahead(slot: Slot, by: u32, d: i32) -> i64
 // The offset, widened to an immediate's size.
 pub fn jump(code: &[u8], here: Slot) -> i32
     requires { slot_size * here.0 + slot_size ≤ length code.now }
-    ensures { result ≡ (slot_in little (was code) here.0).offset }
+    ensures { result ≡ (slot_in little code.now here.0).offset }
 {
     offset(code, here) as i32
 }
@@ -75,7 +75,7 @@ pub fn slot_in(at: i64, slots: u32) -> Found
 // The slot that lies at `here` of some code, as slot `slot` of its function or image; a call as an image has it.
 pub fn leads_at(kinds: &[u8; 256], code: &[u8], here: Slot, slot: Slot) -> Move
     requires { (kinds.now ≡ codes) × (slot_size * here.0 + slot_size ≤ length code.now) }
-    ensures { move_of result ≡ leads_in (slot_in little (was code) here.0) slot.0 }
+    ensures { move_of result ≡ leads_in (slot_in little code.now here.0) slot.0 }
 {
     let kind = kind_of(kinds, opcode(code, here));
     match kind {
@@ -114,7 +114,7 @@ pub fn leads_at(kinds: &[u8; 256], code: &[u8], here: Slot, slot: Slot) -> Move
 
 pub fn image_move(kinds: &[u8; 256], image: &[u8], slots: u32, at: i64) -> Move
     requires { Ground kinds.now image.now slots }
-    ensures { move_of result ≡ in_image (image_in (was image) slots) at }
+    ensures { move_of result ≡ in_image (image_in image.now slots) at }
 {
     let found = slot_in(at, slots);
     match found {
@@ -168,7 +168,7 @@ pub fn image_step(
     taken: usize,
 ) -> Stand
     requires { Stepping kinds.now image.now slots frames.old answers.now depth taken }
-    ensures { ImageStepped (image_in (was image) slots) (was frames) frames.new (was answers) at depth taken result }
+    ensures { ImageStepped (image_in image.now slots) frames.old frames.new answers.now at depth taken result }
 {
     let found = image_move(kinds, image, slots, at);
     match found {
@@ -217,7 +217,7 @@ pub fn image_run(
     limit: usize,
 ) -> Stand
     requires { Ground kinds.now image.now slots }
-    ensures { ImageRan (image_in (was image) slots) (was frames) frames.new (was answers) limit result }
+    ensures { ImageRan (image_in image.now slots) frames.old frames.new answers.now limit result }
 {
     if slots == 0 {
         return Stand::Left;
@@ -241,7 +241,7 @@ pub fn image_run(
 
 // The walk of an image's whole slots, from its first one, at most `limit` steps. Any bytes may be offered.
 pub fn walk_image(image: &[u8], frames: &mut [i64], answers: &[u8], limit: usize) -> ImageRun
-    ensures { ImageWalked (was image) (was frames) frames.new (was answers) limit result }
+    ensures { ImageWalked image.now frames.old frames.new answers.now limit result }
 {
     let slots = image.len() / INSTRUCTION_SIZE;
     if slots > MOST_IMAGE_SLOTS {

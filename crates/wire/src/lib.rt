@@ -1,4 +1,6 @@
 // Numbers in lent bytes, least byte first: reads, stores, copies, wiping, place numbers.
+#![tactic(auto)]
+
 ghost use Rattle.std.specs.Prelude.{◌≡◌, [], ◌∷◌, ◌+◌, ◌%◌, ◌≤◌, ◌<◌, length, take, drop, replicate};
 ghost use Rattle.rules.specs.Bytes.{little, u16_at, u32_at, u64_at, bytes4, signed, unsigned, half16, half32, splice, zero_after};
 ghost use Rattle.rules.specs.Answers.{places_in};

@@ -25,22 +25,22 @@ record Looked (o : Offered) (s : Shown) (k funcs lines : ℕ) : Type 0 where
   lines_low : lines ≤ whole_rows LineInfo s.line_info
 
 abbrev invariant-loop : tie.invariant-loop
-invariant-loop code symbols functions relocations instructions func_info_lem line_info_lem image image-func-info image-line-info pieces n funcs₀ lines₀ k₀ funcs lines k =
-    Looked (link_offer code symbols functions relocations instructions func_info_lem line_info_lem) (shown image image-func-info image-line-info pieces) k funcs lines
+invariant-loop code symbols functions relocations instructions func_info line_info image image-func-info image-line-info pieces n funcs₀ lines₀ k₀ funcs lines k =
+    Looked (link_offer code symbols functions relocations instructions func_info line_info) (shown image image-func-info image-line-info pieces) k funcs lines
 
 abbrev decreases-loop : tie.decreases-loop
-decreases-loop code symbols functions relocations instructions func_info_lem line_info_lem image image-func-info image-line-info pieces n funcs₀ lines₀ k₀ funcs lines k = listed pieces - k
+decreases-loop code symbols functions relocations instructions func_info line_info image image-func-info image-line-info pieces n funcs₀ lines₀ k₀ funcs lines k = listed pieces - k
 
 abbrev tables : tie.Start invariant-loop decreases-loop → Offered
 tables s =
     let a = s.args in
-    link_offer a.code.now a.symbols.now a.functions.now a.relocations.now a.instructions.now a.func_info_lem.now a.line_info_lem.now
+    link_offer a.code.now a.symbols.now a.functions.now a.relocations.now a.instructions.now a.func-info.now a.line-info.now
 
 abbrev shownAt : tie.Start invariant-loop decreases-loop → Shown
 shownAt s = let a = s.args in shown a.image.now a.image-func-info.now a.image-line-info.now a.pieces.now
 
 pieced : (c : tie.In-loop invariant-loop decreases-loop) → Pieced (tables c.before.before.before.before.before.before.before.before.before.before.before.before.before) (shownAt c.before.before.before.before.before.before.before.before.before.before.before.before.before) c.before.loop.k c.before.loop.funcs c.before.loop.lines
-pieced c = record { list = c.before.before.before.before.before.before.before.before.before.before.before.before.before.requires; is_piece_lem = c.loop-test.true; funcs_low = c.before.loop.invariant.funcs_low; lines_low = c.before.loop.invariant.lines_low }
+pieced c = record { list = c.before.before.before.before.before.before.before.before.before.before.before.before.before.requires; is_piece = c.loop-test.true; funcs_low = c.before.loop.invariant.funcs-low; lines_low = c.before.loop.invariant.lines-low }
 
 right : (c : tie.After-enum-told invariant-loop decreases-loop) → wrong_in (tables_of little (tables c.before.before.before.before.before.before.before.before.before.before.before.before.before.before.before.before)) (claim_of little (shownAt c.before.before.before.before.before.before.before.before.before.before.before.before.before.before.before.before)) c.before.before.before.before.loop.k c.before.before.before.before.loop.funcs c.before.before.before.before.loop.lines (piece_at (shownAt c.before.before.before.before.before.before.before.before.before.before.before.before.before.before.before.before).pieces c.before.before.before.before.loop.k) ≡ none
 right c = sym c.before.before.check-piece.ensures ∙ ap refusal_in c.enum_told.given.1

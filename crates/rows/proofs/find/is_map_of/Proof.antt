@@ -25,7 +25,7 @@ returns c = rw (← c.before.map-section.ensures) (simp (ne_eqb _ _ c.if1.true))
 
 returns-2 : tie.Need-returns-2
 returns-2 c =
-    rw (← c.before.map-section.ensures, ← c.before.before.map_symbol_lem.ensures)
+    rw (← c.before.map-section.ensures, ← c.before.before.map-symbol.ensures)
     (simp (eq-eqb _ _ c.if1.false) (without _ _))
 
 pub is-map-of-spec : {M : Type 1} → statement M

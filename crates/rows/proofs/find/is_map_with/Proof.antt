@@ -9,10 +9,10 @@ map-symbol-requires : tie.Need-map-symbol-requires
 map-symbol-requires c κs = search rules
 
 returns : tie.Need-returns
-returns c = rw (← c.before.map_symbol_lem.ensures) (simp (eq-eqb _ _ c.if1.true))
+returns c = rw (← c.before.map-symbol.ensures) (simp (eq-eqb _ _ c.if1.true))
 
 returns-2 : tie.Need-returns-2
-returns-2 c = rw (← c.before.map_symbol_lem.ensures) (simp (ne_eqb _ _ c.if1.false))
+returns-2 c = rw (← c.before.map-symbol.ensures) (simp (ne_eqb _ _ c.if1.false))
 
 pub is-map-with-spec : {M : Type 1} → statement M
 is-map-with-spec = tie.close (tie.spec map-symbol-requires returns returns-2)
