@@ -17,7 +17,7 @@ abbrev entry : tie.After-counts → tie.Start
 entry c = c.before.before.before.before.before.before.before.before
 
 abbrev tables : tie.Start → Offered
-tables s = parts_offer s.args.functions.now s.args.instructions.now s.args.func-info.now s.args.line-info.now
+tables s = parts_offer s.args.functions.now s.args.instructions.now s.args.func_info.now s.args.line_info.now
 
 abbrev outputs : tie.Start → Buffers
 outputs s = buffers s.args.image.now s.args.image-func-info.now s.args.image-line-info.now
@@ -60,14 +60,14 @@ returns c =
     let more = d.counts in record {
       image_is = i.copy-rows.ensures
           ∙ ap (splice a.image.now 0)
-          (slots_copied a.functions.now a.row a.instructions.now part.slots more.result.slots begins.slots-are more.ensures.slots-are);
+          (slots_copied a.functions.now a.row a.instructions.now part.slots more.result.slots begins.slots_are more.ensures.slots_are);
       funcs_is = f.copy-rows2.ensures
           ∙ ap (splice a.image-func-info.now 0)
-          (funcs_copied a.functions.now a.row a.func-info.now part.funcs more.result.funcs
-          (λ k. omega (arith, d.before.before.before.before.before.shared-slice-known3.given k)) begins.funcs-are more.ensures.funcs-are (held d).function_records.inside);
+          (funcs_copied a.functions.now a.row a.func_info.now part.funcs more.result.funcs
+          (λ k. omega (arith, d.before.before.before.before.before.shared-slice-known3.given k)) begins.funcs_are more.ensures.funcs_are (held d).function_records.inside);
       lines_is = l.copy-rows3.ensures
           ∙ ap (splice a.image-line-info.now 0)
-          (lines_copied a.functions.now a.row a.line-info.now part.lines more.result.lines
+          (lines_copied a.functions.now a.row a.line_info.now part.lines more.result.lines
           (λ k. omega (arith, d.before.before.before.before.shared-slice-known4.given k)) begins.lines_are more.ensures.lines_are (held d).line_records.inside);
       counts = more.ensures;
     }

@@ -18,7 +18,7 @@ abbrev entry : tie.After-counts → tie.Start
 entry c = c.before.before.before.before.before.before.before.before
 
 abbrev tables : tie.Start → Offered
-tables s = parts_offer s.args.functions.now s.args.instructions.now s.args.func-info.now s.args.line-info.now
+tables s = parts_offer s.args.functions.now s.args.instructions.now s.args.func_info.now s.args.line_info.now
 
 abbrev outputs : tie.Start → Buffers
 outputs s = buffers s.args.image.now s.args.image-func-info.now s.args.image-line-info.now
@@ -46,21 +46,21 @@ link-line-info-requires c κs =
     let begins = (entry d).requires.begins in
     let more = d.counts in (
       (held d).line_records,
-      near_in a.functions.now a.line-info.now a.row part.lines more.result.lines a.used.slots begins.lines_are more.ensures.lines_are
-          (omega (arith, (held d).most-slots, more.ensures.slots-are)) s.pre.no_stray,
+      near_in a.functions.now a.line_info.now a.row part.lines more.result.lines a.used.slots begins.lines_are more.ensures.lines_are
+          (omega (arith, (held d).most_slots, more.ensures.slots_are)) s.pre.no_stray,
     )
 
 abbrev counted : tie.After-link-line-info → tie.After-counts
 counted c = c.before.before.before.before.before.before.before.before.before.before
 
 add-t19 : tie.Need-overflow-add-t19
-add-t19 c = omega (arith, (held (counted c.before.before.before.before)).most-slots)
+add-t19 c = omega (arith, (held (counted c.before.before.before.before)).most_slots)
 
 add-t20 : tie.Need-overflow-add-t20
-add-t20 c = omega (arith, (held (counted c.before.before.before.before.before.before)).most-funcs)
+add-t20 c = omega (arith, (held (counted c.before.before.before.before.before.before)).most_funcs)
 
 add-t21 : tie.Need-overflow-add-t21
-add-t21 c = omega (arith, (held (counted c.before.before.before.before.before.before.before.before)).most-lines)
+add-t21 c = omega (arith, (held (counted c.before.before.before.before.before.before.before.before)).most_lines)
 
 same_length : tie.Need-same-length
 same_length c = search rules
@@ -83,16 +83,16 @@ returns c =
     let more = d.counts in record {
       image_is = i.copy-rows.ensures
           ∙ ap (splice a.image.now (8 * a.used.slots))
-          (slots_copied a.functions.now a.row a.instructions.now part.slots more.result.slots begins.slots-are more.ensures.slots-are);
+          (slots_copied a.functions.now a.row a.instructions.now part.slots more.result.slots begins.slots_are more.ensures.slots_are);
       funcs_is = f.link-func-info.ensures
           ∙ ap (splice a.image-func-info.now (8 * a.used.funcs))
-          (funcs_moved a.functions.now a.row a.func-info.now part.funcs more.result.funcs a.used.slots begins.funcs-are more.ensures.funcs-are);
+          (funcs_moved a.functions.now a.row a.func_info.now part.funcs more.result.funcs a.used.slots begins.funcs_are more.ensures.funcs_are);
       lines_is = l.link-line-info.ensures
           ∙ ap (splice a.image-line-info.now (16 * a.used.lines))
-          (lines_moved a.functions.now a.row a.line-info.now part.lines more.result.lines a.used.slots begins.lines_are more.ensures.lines_are);
+          (lines_moved a.functions.now a.row a.line_info.now part.lines more.result.lines a.used.slots begins.lines_are more.ensures.lines_are);
       counts = record {
-        slots_are = ap (λ (n : ℕ). a.used.slots + n) more.ensures.slots-are;
-        funcs_are = ap (λ (n : ℕ). a.used.funcs + n) more.ensures.funcs-are;
+        slots_are = ap (λ (n : ℕ). a.used.slots + n) more.ensures.slots_are;
+        funcs_are = ap (λ (n : ℕ). a.used.funcs + n) more.ensures.funcs_are;
         lines_are = ap (λ (n : ℕ). a.used.lines + n) more.ensures.lines_are;
       };
     }

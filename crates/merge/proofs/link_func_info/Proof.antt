@@ -59,7 +59,7 @@ loop-again c =
       omega (arith, i.loop-test.true),
       (
         p.put-pair.ensures
-            ∙ func_turn a.func-info.now a.part.funcs _ a.out.now l.out a.used.funcs l.k kind.result l.invariant.1.0 kind.ensures
+            ∙ func_turn a.func_info.now a.part.funcs _ a.out.now l.out a.used.funcs l.k kind.result l.invariant.1.0 kind.ensures
             (omega (arith, s.requires.room, i.loop-test.true)),
         p.put-pair.auto.0 ∙ l.invariant.1.1,
       ),
@@ -73,7 +73,7 @@ returns c =
     let l = c.before.loop in
     let a = c.before.before.before.before.before.before.before.args in
     let e : l.k ≡ a.more.funcs = omega (arith, l.invariant.0, c.loop-test.false) in
-    l.invariant.1.0 ∙ funcs_all a.func-info.now a.part.funcs a.used.slots a.out.now a.used.funcs l.k a.more.funcs e
+    l.invariant.1.0 ∙ funcs_all a.func_info.now a.part.funcs a.used.slots a.out.now a.used.funcs l.k a.more.funcs e
 
 pub link-func-info-spec : {M : Type 1} → statement M
 link-func-info-spec =

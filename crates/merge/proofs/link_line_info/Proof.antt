@@ -22,7 +22,7 @@ abbrev entry : tie.In-loop invariant-loop decreases-loop → tie.Start invariant
 entry c = c.before.before.before.before.before.before.before.before.before
 
 -- the record does not stray
-stays : (c : tie.In-loop invariant-loop decreases-loop) → Nearby (entry c).args.line-info.now (entry c).args.part.lines (entry c).args.used.slots c.before.loop.k
+stays : (c : tie.In-loop invariant-loop decreases-loop) → Nearby (entry c).args.line_info.now (entry c).args.part.lines (entry c).args.used.slots c.before.loop.k
 stays c = (entry c).requires.1 c.before.loop.k c.loop-test.true
 
 cast-from : tie.Need-overflow-cast-from invariant-loop decreases-loop
@@ -37,8 +37,8 @@ cast-n c = search rules
 returns : tie.Need-returns invariant-loop decreases-loop
 returns c =
     let a = c.before.before.before.before.before.before.args in
-    lines_none a.line-info.now a.part.lines 0 a.used.slots a.out.now a.used.lines
-    ∙ lines_all a.line-info.now a.part.lines 0 a.used.slots a.out.now a.used.lines 0 a.more.lines (sym c.if1.true) (λ l. absurd (omega (arith, c.if1.true)))
+    lines_none a.line_info.now a.part.lines 0 a.used.slots a.out.now a.used.lines
+    ∙ lines_all a.line_info.now a.part.lines 0 a.used.slots a.out.now a.used.lines 0 a.more.lines (sym c.if1.true) (λ l. absurd (omega (arith, c.if1.true)))
 
 line-info-slot-requires : tie.Need-line-info-slot-requires invariant-loop decreases-loop
 line-info-slot-requires c κs = omega arith
@@ -46,7 +46,7 @@ line-info-slot-requires c κs = omega arith
 loop-holds : tie.Need-loop-init invariant-loop decreases-loop
 loop-holds c =
     let a = c.before.before.before.before.before.before.before.args in
-    (omega arith, (lines_none a.line-info.now a.part.lines c.line-info-slot.result a.used.slots a.out.now a.used.lines, refl))
+    (omega arith, (lines_none a.line_info.now a.part.lines c.line-info-slot.result a.used.slots a.out.now a.used.lines, refl))
 
 add_row : tie.Need-overflow-add-row invariant-loop decreases-loop
 add_row c = omega arith
@@ -105,7 +105,7 @@ loop-again c =
       (
         q.put-pair2.ensures
             ∙ ap (λ (d : List ℕ). splice d (16 * (a.used.lines + l.k) + 8) (pair_bytes line.result column.result)) p.put-pair.ensures
-            ∙ line_turn a.line-info.now a.part.lines i.before.before.line-info-slot.result a.used.slots a.out.now l.out a.used.lines l.k
+            ∙ line_turn a.line_info.now a.part.lines i.before.before.line-info-slot.result a.used.slots a.out.now l.out a.used.lines l.k
             slot.result file.result line.result column.result l.invariant.1.0 l.invariant.1.1 slot.ensures file.ensures line.ensures column.ensures
             (omega (arith, (entry i).requires.0.room, i.loop-test.true)),
         q.put-pair2.auto.0 ∙ p.put-pair.auto.0 ∙ l.invariant.1.1,
@@ -121,7 +121,7 @@ returns-2 c =
     let o = c.before.before in
     let a = o.before.before.before.before.before.before.before.args in
     let e : l.k ≡ a.more.lines = omega (arith, l.invariant.0, c.loop-test.false) in
-    l.invariant.1.0 ∙ lines_all a.line-info.now a.part.lines o.line-info-slot.result a.used.slots a.out.now a.used.lines l.k a.more.lines e (λ l. o.line-info-slot.ensures)
+    l.invariant.1.0 ∙ lines_all a.line_info.now a.part.lines o.line-info-slot.result a.used.slots a.out.now a.used.lines l.k a.more.lines e (λ l. o.line-info-slot.ensures)
 
 pub link-line-info-spec : {M : Type 1} → statement M
 link-line-info-spec =

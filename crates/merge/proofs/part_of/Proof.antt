@@ -31,7 +31,7 @@ add-slots : tie.Need-overflow-add-slots invariant-loop decreases-loop
 add-slots c =
     let i = c.before in
     let a = i.before.before.before in
-    omega (arith, part_inside (function_slots a.args.functions.now) a.args.row i.before.loop.k i.loop-test.true, i.before.loop.invariant.slots-are, a.requires.few-slots, c.function-slots.ensures)
+    omega (arith, part_inside (function_slots a.args.functions.now) a.args.row i.before.loop.k i.loop-test.true, i.before.loop.invariant.slots_are, a.requires.few_slots, c.function-slots.ensures)
 
 function-func-info-requires : tie.Need-function-func-info-requires invariant-loop decreases-loop
 function-func-info-requires c κs = omega arith
@@ -40,7 +40,7 @@ add-funcs : tie.Need-overflow-add-funcs invariant-loop decreases-loop
 add-funcs c =
     let i = c.before.before in
     let a = i.before.before.before in
-    omega (arith, part_inside (function_func_info a.args.functions.now) a.args.row i.before.loop.k i.loop-test.true, i.before.loop.invariant.funcs-are, a.requires.few-funcs, c.function-func-info.ensures)
+    omega (arith, part_inside (function_func_info a.args.functions.now) a.args.row i.before.loop.k i.loop-test.true, i.before.loop.invariant.funcs_are, a.requires.few_funcs, c.function-func-info.ensures)
 
 function-line-info-requires : tie.Need-function-line-info-requires invariant-loop decreases-loop
 function-line-info-requires c κs = omega arith
@@ -49,7 +49,7 @@ add-lines : tie.Need-overflow-add-lines invariant-loop decreases-loop
 add-lines c =
     let i = c.before.before.before in
     let a = i.before.before.before in
-    omega (arith, part_inside (function_line_info a.args.functions.now) a.args.row i.before.loop.k i.loop-test.true, i.before.loop.invariant.lines_are, a.requires.few-lines, c.function-line-info.ensures)
+    omega (arith, part_inside (function_line_info a.args.functions.now) a.args.row i.before.loop.k i.loop-test.true, i.before.loop.invariant.lines_are, a.requires.few_lines, c.function-line-info.ensures)
 
 add-k : tie.Need-overflow-add-k invariant-loop decreases-loop
 add-k c = omega arith
@@ -63,8 +63,8 @@ loop-again c =
     let l = i.before.loop in
     let t = i.before.before.before.args.functions.now in record {
       most = omega (arith, i.loop-test.true);
-      slots_are = omega (arith, summed_step (function_slots t) l.k, l.invariant.slots-are, c.before.before.function-slots.ensures);
-      funcs_are = omega (arith, summed_step (function_func_info t) l.k, l.invariant.funcs-are, c.before.function-func-info.ensures);
+      slots_are = omega (arith, summed_step (function_slots t) l.k, l.invariant.slots_are, c.before.before.function-slots.ensures);
+      funcs_are = omega (arith, summed_step (function_func_info t) l.k, l.invariant.funcs_are, c.before.function-func-info.ensures);
       lines_are = omega (arith, summed_step (function_line_info t) l.k, l.invariant.lines_are, c.function-line-info.ensures);
     }
 
@@ -73,8 +73,8 @@ returns c =
     let l = c.before.loop in
     let a = c.before.before.before.args in
     let e : l.k ≡ a.row = omega (arith, l.invariant.most, c.loop-test.false) in record {
-      slots_are = l.invariant.slots-are ∙ ap (summed (function_slots a.functions.now) 0) e;
-      funcs_are = l.invariant.funcs-are ∙ ap (summed (function_func_info a.functions.now) 0) e;
+      slots_are = l.invariant.slots_are ∙ ap (summed (function_slots a.functions.now) 0) e;
+      funcs_are = l.invariant.funcs_are ∙ ap (summed (function_func_info a.functions.now) 0) e;
       lines_are = l.invariant.lines_are ∙ ap (summed (function_line_info a.functions.now) 0) e;
     }
 

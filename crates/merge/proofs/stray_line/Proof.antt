@@ -36,7 +36,7 @@ abbrev start : tie.At-loop invariant-loop decreases-loop → tie.Start invariant
 start c = c.before.before.before.before.before.before.before
 
 abbrev row_of_lem : tie.At-loop invariant-loop decreases-loop → ℕ → LineRecord
-row_of_lem c = line_info_row little (start c).args.line-info.now
+row_of_lem c = line_info_row little (start c).args.line_info.now
 
 abbrev first_of : tie.At-loop invariant-loop decreases-loop → ℕ
 first_of c = (start c).args.first
@@ -50,7 +50,7 @@ cast-count c = omega arith
 returns : tie.Need-returns invariant-loop decreases-loop
 returns c =
     let a = c.before.before.before.before.args in
-    ap found_of (sym (stray_none a.functions.now a.line-info.now a.row 0 0 0 0 (sym c.before.function-line-info.ensures ∙ c.if1.true)))
+    ap found_of (sym (stray_none a.functions.now a.line_info.now a.row 0 0 0 0 (sym c.before.function-line-info.ensures ∙ c.if1.true)))
 
 function-slots-requires : tie.Need-function-slots-requires invariant-loop decreases-loop
 function-slots-requires c κs = omega arith
@@ -64,7 +64,7 @@ loop-holds c =
     let s = n.before.before.before in
     let a = s.args in record {
       most = omega arith;
-      same = stray_start a.functions.now a.line-info.now a.row a.first n.function-line-info.result c.before.function-slots.result.0 c.line-info-slot.result
+      same = stray_start a.functions.now a.line_info.now a.row a.first n.function-line-info.result c.before.function-slots.result.0 c.line-info-slot.result
           c.before.function-slots.ensures s.requires.begins n.function-line-info.ensures c.line-info-slot.ensures (omega (arith, c.before.before.if1.false));
     }
 

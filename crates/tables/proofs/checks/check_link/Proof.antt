@@ -15,7 +15,7 @@ start c = c.before.before.before.before.before.before.before.before.before.befor
 abbrev offered : tie.After-or-too-many7 → Offered
 offered c =
     let a = (start c).args in
-    link_offer a.code.now a.symbols.now a.functions.now a.relocations.now a.instructions.now a.func-info.now a.line-info.now
+    link_offer a.code.now a.symbols.now a.functions.now a.relocations.now a.instructions.now a.func_info.now a.line_info.now
 
 first-refusal : (c : tie.After-or-too-many7) → ManyIs (offered c) link_tables (refusal_in c.or-too-many7.result)
 first-refusal c =

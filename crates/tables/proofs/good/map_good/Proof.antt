@@ -35,7 +35,7 @@ unfolding is_good
 returns c =
     four (c.before.before.before.is-section.ensures ∙ ap is_section c.before.before.before.before.map-section.ensures)
     (ap (λ x. leb x 1) c.before.before.map-has-data.ensures)
-    c.before.all-zero.ensures
+    c.before.all_zero.ensures
     (ap not c.is-doubled.ensures)
 
 pub map-good-spec : {M : Type 1} → statement M

@@ -56,7 +56,7 @@ returns c =
     five (c.before.before.before.before.before.before.is-section.ensures ∙ ap is_section s)
     (ap (λ x. not (eqb x none_number)) c.before.before.before.before.before.relocation-symbol.ensures)
     (c.before.before.before.before.is_Address.ensures ∙ ap is_address o)
-    c.before.before.before.all-zero.ensures
+    c.before.before.before.all_zero.ensures
     (pairs_rise (relocation_section t) (relocation_offset t) k c.is-before.ensures
     (key_last (relocation_section t) k l c.before.before.relocation-section2.ensures)
     (key_last (relocation_offset t) k l c.before.relocation-offset2.ensures)

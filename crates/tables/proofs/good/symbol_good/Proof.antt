@@ -53,7 +53,7 @@ returns c =
     (c.before.before.before.before.is-section-or-none.ensures ∙ ap is_section_or_none c.before.before.before.before.before.symbol-section.ensures)
     (c.before.before.is_Address.ensures ∙ ap is_address c.before.before.before.symbol-address.ensures)
     (ap (λ x. leb x 2) c.before.symbol-kind.ensures)
-    c.all-zero.ensures
+    c.all_zero.ensures
     (keys_rise (symbol_index t) k (key_last (symbol_index t) k l c.before.before.before.before.before.before.symbol-index2.ensures) i)
 
 pub symbol-good-spec : {M : Type 1} → statement M
