@@ -48,7 +48,10 @@ pub lines_all : (t : List ℕ) (first origin start : ℕ) (out : List ℕ) (at k
 unfolding lines_put
 lines_all t first origin start out at k zero e o = rw e
 lines_all t first origin start out at k (suc n) e o =
-    rw (e, o (omega arith)) (ap (splice out (16 * at)) (sym (line_linked (rebased (record_slot little LineInfo t first) start) (line_info_row little t) first (suc n))))
+    let h : origin ≡ record_slot little LineInfo t first = o (omega arith) in
+    rw e
+    (ap (λ (z : ℕ). splice out (16 * at) (packed line_one (run (moved z start t) first (suc n)))) h
+    ∙ ap (splice out (16 * at)) (sym (line_linked (rebased (record_slot little LineInfo t first) start) (line_info_row little t) first (suc n))))
 
 pub func_turn : (t : List ℕ) (first start : ℕ) (out out' : List ℕ) (at k kind : ℕ) → out' ≡ funcs_put t first start out at k → kind ≡ record_type little t (first + k)
     → 8 * (at + k) + 8 ≤ length out → splice out' (8 * (at + k)) (pair_bytes start kind) ≡ funcs_put t first start out at (k + 1)

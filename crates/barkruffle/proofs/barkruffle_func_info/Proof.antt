@@ -18,7 +18,7 @@ same-length-2 : tie.Need-same-length-2
 same-length-2 c = search rules
 
 returns : tie.Need-returns
-returns c = read_told c.before.before.before.before.before.before.func-info.ensures c.before.before.tell.ensures
+returns c = read_told c.before.before.before.before.before.before.func_info.ensures c.before.before.tell.ensures
 
 pub barkruffle-func-info-spec : {M : Type 1} → statement M
 barkruffle-func-info-spec =

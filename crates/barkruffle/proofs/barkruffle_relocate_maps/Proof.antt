@@ -18,7 +18,7 @@ same-length-2 : tie.Need-same-length-2
 same-length-2 c = search rules
 
 returns : tie.Need-returns
-returns c = map_told c.before.before.before.before.before.before.relocate-maps.ensures.reply c.before.before.before.before.before.before.relocate-maps.ensures.instructions c.before.before.tell.ensures
+returns c = map_told c.before.before.before.before.before.before.relocate_maps.ensures.reply c.before.before.before.before.before.before.relocate_maps.ensures.instructions c.before.before.tell.ensures
 
 pub barkruffle-relocate-maps-spec : {M : Type 1} → statement M
 barkruffle-relocate-maps-spec =

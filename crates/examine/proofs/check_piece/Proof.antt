@@ -27,7 +27,7 @@ slot-at-requires : tie.Need-slot-at-requires
 slot-at-requires c κs = search rules
 
 check-slots-requires : tie.Need-check-slots-requires
-check-slots-requires c κs = visits c.before.before.before.before.before.before.before.before.before.before.before.before.before.before.before.requires c.before.before.before.piece-row.ensures c.before.before.piece-start.ensures (c.slot_at.ensures ∙ c.before.part_of.ensures.slots-are)
+check-slots-requires c κs = visits c.before.before.before.before.before.before.before.before.before.before.before.before.before.before.before.requires c.before.before.before.piece-row.ensures c.before.before.piece-start.ensures (c.slot_at.ensures ∙ c.before.part_of.ensures.slots_are)
 
 enum-known-judged : tie.Need-enum-known-judged
 enum-known-judged c = search rules

@@ -34,13 +34,13 @@ decreases-loop code symbols functions relocations instructions func_info line_in
 abbrev tables : tie.Start invariant-loop decreases-loop → Offered
 tables s =
     let a = s.args in
-    link_offer a.code.now a.symbols.now a.functions.now a.relocations.now a.instructions.now a.func-info.now a.line-info.now
+    link_offer a.code.now a.symbols.now a.functions.now a.relocations.now a.instructions.now a.func_info.now a.line_info.now
 
 abbrev shownAt : tie.Start invariant-loop decreases-loop → Shown
 shownAt s = let a = s.args in shown a.image.now a.image-func-info.now a.image-line-info.now a.pieces.now
 
 pieced : (c : tie.In-loop invariant-loop decreases-loop) → Pieced (tables c.before.before.before.before.before.before.before.before.before.before.before.before.before) (shownAt c.before.before.before.before.before.before.before.before.before.before.before.before.before) c.before.loop.k c.before.loop.funcs c.before.loop.lines
-pieced c = record { list = c.before.before.before.before.before.before.before.before.before.before.before.before.before.requires; is_piece = c.loop-test.true; funcs_low = c.before.loop.invariant.funcs-low; lines_low = c.before.loop.invariant.lines-low }
+pieced c = record { list = c.before.before.before.before.before.before.before.before.before.before.before.before.before.requires; is_piece = c.loop-test.true; funcs_low = c.before.loop.invariant.funcs_low; lines_low = c.before.loop.invariant.lines_low }
 
 right : (c : tie.After-enum-told invariant-loop decreases-loop) → wrong_in (tables_of little (tables c.before.before.before.before.before.before.before.before.before.before.before.before.before.before.before.before)) (claim_of little (shownAt c.before.before.before.before.before.before.before.before.before.before.before.before.before.before.before.before)) c.before.before.before.before.loop.k c.before.before.before.before.loop.funcs c.before.before.before.before.loop.lines (piece_at (shownAt c.before.before.before.before.before.before.before.before.before.before.before.before.before.before.before.before).pieces c.before.before.before.before.loop.k) ≡ none
 right c = sym c.before.before.check-piece.ensures ∙ ap refusal_in c.enum_told.given.1

@@ -14,7 +14,7 @@ use Rattle.examine.proofs.examine.Tie as tie
 abbrev tables : tie.Start → Offered
 tables s =
     let a = s.args in
-    link_offer a.code.now a.symbols.now a.functions.now a.relocations.now a.instructions.now a.func-info.now a.line-info.now
+    link_offer a.code.now a.symbols.now a.functions.now a.relocations.now a.instructions.now a.func_info.now a.line_info.now
 
 abbrev shownAt : tie.Start → Shown
 shownAt s = let a = s.args in shown a.image.now a.image-func-info.now a.image-line-info.now a.pieces.now

@@ -40,7 +40,7 @@ returns-3 c =
     let r = c.before.before.before in
     let a = r.before.before.args in
     let large : row_size a.table ≤ a.size = omega (arith, r.row-size.ensures.0) in
-    simp (le-leb _ _ large, eq-eqb _ _ c.before.if2.false) c.on-grid.ensures
+    simp (le-leb _ _ large, eq-eqb _ _ c.before.if2.false) c.on_the_grid.ensures
 
 pub is-whole-spec : {M : Type 1} → statement M
 is-whole-spec =

@@ -38,8 +38,8 @@ reaches : (c : tie.In-loop invariant-loop decreases-loop)
 reaches c =
     let a = (start c).args in
     let l = c.before.loop in (
-      omega (arith, one_more_fits a.size l.k a.count c.loop-test.true, l.invariant.source, (start c).requires.data-holds),
-      omega (arith, one_more_fits a.row l.k a.count c.loop-test.true, l.invariant.target, (start c).requires.output-holds),
+      omega (arith, one_more_fits a.size l.k a.count c.loop-test.true, l.invariant.source, (start c).requires.data_holds),
+      omega (arith, one_more_fits a.row l.k a.count c.loop-test.true, l.invariant.target, (start c).requires.output_holds),
     )
 
 abbrev entered : tie.After-copy-arg invariant-loop decreases-loop → tie.In-loop invariant-loop decreases-loop
@@ -49,7 +49,7 @@ within : (c : tie.In-loop invariant-loop decreases-loop) (table : Table) → (st
     → Within table (given (start c).args.size (start c).args.count (start c).args.bytes.now)
 within c table e k l =
     let a = (start c).args in
-    omega (arith, one_more_fits a.size k a.count l, (start c).requires.record-holds, (start c).requires.data-holds)
+    omega (arith, one_more_fits a.size k a.count l, (start c).requires.record_holds, (start c).requires.data_holds)
 
 loop-holds : tie.Need-loop-init invariant-loop decreases-loop
 loop-holds c =
@@ -58,11 +58,11 @@ loop-holds c =
       source = sym (mul-zero a.size);
       target = sym (mul-zero a.row);
       kept = refl;
-      rows = λ table e. c.before.before.requires.zero-before;
+      rows = λ table e. c.before.before.requires.zero_before;
     }
 
 slot-in-requires : tie.Need-slot-in-requires invariant-loop decreases-loop
-slot-in-requires c κs = omega (arith, (reaches c.before).0, (start c.before).pre.slot, (start c.before).pre.record-holds)
+slot-in-requires c κs = omega (arith, (reaches c.before).0, (start c.before).pre.slot, (start c.before).pre.record_holds)
 
 put-u32-requires : tie.Need-put-u32-requires invariant-loop decreases-loop
 put-u32-requires c κs =
@@ -73,7 +73,7 @@ add-copy : tie.Need-overflow-add-copy invariant-loop decreases-loop
 add-copy c = omega (arith, (reaches (entered c)).1, (start (entered c)).pre.slot)
 
 add-copy-2 : tie.Need-overflow-add-copy-2 invariant-loop decreases-loop
-add-copy-2 c = omega (arith, (reaches (entered c)).0, (start (entered c)).pre.slot, (start (entered c)).pre.record-holds)
+add-copy-2 c = omega (arith, (reaches (entered c)).0, (start (entered c)).pre.slot, (start (entered c)).pre.record_holds)
 
 sub-copy : tie.Need-overflow-sub-copy invariant-loop decreases-loop
 sub-copy c = omega (arith, (start (entered c)).pre.slot)
@@ -82,7 +82,7 @@ copy-requires : tie.Need-copy-requires invariant-loop decreases-loop
 copy-requires c κs =
     let i = entered c in (
       omega (arith, (reaches i).1, (start i).pre.slot, i.before.loop.inv.kept, c.before.before.before.put-u32.auto.0),
-      omega (arith, (reaches i).0, (start i).pre.slot, (start i).pre.record-holds),
+      omega (arith, (reaches i).0, (start i).pre.slot, (start i).pre.record_holds),
     )
 
 add-from : tie.Need-overflow-add-from invariant-loop decreases-loop

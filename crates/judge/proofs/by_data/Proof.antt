@@ -73,7 +73,7 @@ returns-3 c =
     let s = start (asked f) in
     let inside = fits-is f ∙ not-false _ c.if2.false in
     valued_says s.args.maps.now s.args.m s.args.address.0 s.args.site (with-data f) _ _ (fd_is (asked f))
-    (ap (λ z. to_z w32 (of_z w32 z)) (sum_is f) ∙ to_z-of_z w32 _ (inside_fits _ inside)) inside s.pre.wide-load
+    (ap (λ z. to_z w32 (of_z w32 z)) (sum_is f) ∙ to_z-of_z w32 _ (inside_fits _ inside)) inside s.pre.wide_load
 
 pub by-data-spec : {M : Type 1} → statement M
 by-data-spec =

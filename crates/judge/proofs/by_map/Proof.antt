@@ -23,7 +23,7 @@ abbrev looks : tie.After-struct-known → tie.After-find-map
 looks t = t.before.before.before.before
 
 found : (t : tie.After-struct-known) → looked (looks t) ≡ some t.before.before.m.given.0.0
-found t = found_some (looked (looks t)) _ (sym (looks t).find-map.ensures ∙ t.before.before.m.given.1)
+found t = found_some (looked (looks t)) _ (sym (looks t).find_map.ensures ∙ t.before.before.m.given.1)
 
 find-map-requires : tie.Need-find-map-requires
 find-map-requires c κs = search rules
@@ -42,7 +42,7 @@ returns c =
     let n = c.before.before.before in
     let a = (start n).args in
     no_map_says a.maps.now a.symbol a.home a.address.0 a.site
-    (found_none (looked n) (sym n.find-map.ensures ∙ c.before.enum_told.given.1)) _ c.refused.ensures
+    (found_none (looked n) (sym n.find_map.ensures ∙ c.before.enum_told.given.1)) _ c.refused.ensures
 
 refused-requires-2 : tie.Need-refused-requires-2
 refused-requires-2 c κs = search rules

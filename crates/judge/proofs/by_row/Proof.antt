@@ -24,7 +24,7 @@ abbrev decided : tie.After-symbol-kind → tie.After-is-code
 decided t = t.before.before
 
 no_code : (t : tie.After-symbol-kind) → is_code_section (start (home (decided t))).args.code.now (home (decided t)).symbol-section.result ≡ false
-no_code t = sym (decided t).is-code.ensures ∙ t.before.if3.false
+no_code t = sym (decided t).is_code.ensures ∙ t.before.if3.false
 
 symbol-section-requires : tie.Need-symbol-section-requires
 symbol-section-requires c κs = search rules
@@ -48,7 +48,7 @@ returns-3 c =
     let d = c.before in
     let a = (start (home d)).args in
     code_says a.code.now a.symbols.now a.maps.now a.s a.symbol a.site _ (home d).symbol-section.ensures (named d).if1.false
-    d.before.if2.false (sym d.is-code.ensures ∙ c.if3.true)
+    d.before.if2.false (sym d.is_code.ensures ∙ c.if3.true)
 
 symbol-kind-requires : tie.Need-symbol-kind-requires
 symbol-kind-requires c κs = search rules
@@ -70,7 +70,7 @@ symbol-address-requires c κs = search rules
 by-map-requires : tie.Need-by-map-requires
 by-map-requires c κs =
     let s = start (home (decided c.before.before)) in
-    (s.pre.0.maps-sound, omega (arith, c.symbol-address.ensures, (good_symbol s.args.symbols.now s.pre.0.symbols-sound s.args.s s.pre.1).address))
+    (s.pre.0.maps_sound, omega (arith, c.symbol-address.ensures, (good_symbol s.args.symbols.now s.pre.0.symbols_sound s.args.s s.pre.1).address))
 
 returns-5 : tie.Need-returns-5
 returns-5 c =

@@ -123,7 +123,7 @@ read-site-requires c κs =
     }
 
 relocation-symbol-requires : tie.Need-relocation-symbol-requires
-relocation-symbol-requires c κs = omega (arith, (start (read c.before.before.before)).requires.k-inside)
+relocation-symbol-requires c κs = omega (arith, (start (read c.before.before.before)).requires.k_inside)
 
 by-symbol-requires : tie.Need-by-symbol-requires
 by-symbol-requires c κs =
@@ -137,8 +137,8 @@ returns-4 c =
     let t = on.before.before in
     let s = start (read t) in
     let says : Says site.read-site.result
-    (symbol_verdict s.args.code.now s.args.symbols.now s.args.maps.now (relocation_symbol s.args.relocations.now s.args.k) site.read-site.result) c.by-symbol.result =
-    rw c.before.relocation-symbol.ensures at c.by-symbol.ensures in
+    (symbol_verdict s.args.code.now s.args.symbols.now s.args.maps.now (relocation_symbol s.args.relocations.now s.args.k) site.read-site.result) c.by_symbol.result =
+    rw c.before.relocation-symbol.ensures at c.by_symbol.ensures in
     site_judges s.pre (starts (sized t)) (ends t) (ap (λ (n : ℕ). n % 8) (sym (far (sized t))) ∙ eqb-true _ 0 (sym on.before.is-on-grid.ensures ∙ not-false _ on.if3.false)) _ _ _ (slot_is t) (read t).function-slots.ensures site.read-site.ensures _ says
 
 pub judge-spec : {M : Type 1} → statement M

@@ -41,7 +41,7 @@ returns c =
       here_is = at;
       imm_is = to_z-of_z w32 _ (record { sfits = c.before.before.immediate.type-inv }) ∙ c.before.before.immediate.ensures
           ∙ ap (λ (m : ℕ). (slot_in little a.instructions.now m).immediate) at;
-      call_is = c.before.insn-is-call.ensures ∙ ap (λ (m : ℕ). is_call (slot_in little a.instructions.now m)) at;
+      call_is = c.before.insn_is_call.ensures ∙ ap (λ (m : ℕ). is_call (slot_in little a.instructions.now m)) at;
       wide_is = c.is-wide-load.ensures ∙ ap (λ (m : ℕ). wide_load_in a.instructions.now m n.after2.result.0) at
           ∙ ap (λ (m : ℕ). wide_load_in a.instructions.now (a.first.0 + a.slot.0) m) n.after2.ensures;
     }

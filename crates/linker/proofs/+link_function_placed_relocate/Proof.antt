@@ -274,13 +274,13 @@ link-function-refusal-requires : (t : ℕ) → link-function-lts.Need-refusal-re
 link-function-refusal-requires t c κs = search rules
 
 link-function-returns : (t : ℕ) → link-function-lts.Need-returns (link-function-claims t) (link-function-at t) link_function.Post
-link-function-returns t c = ways.out-of-room (link-function-start-from-refusal c).pre.1 (sym c.before.before.has_room.ensures ∙ not-true _ c.before.if1.true) _ c.refusal.ensures
+link-function-returns t c = ways.out_of_room (link-function-start-from-refusal c).pre.1 (sym c.before.before.has_room.ensures ∙ not-true _ c.before.if1.true) _ c.refusal.ensures
 
 link-function-part-of-requires : (t : ℕ) → link-function-lts.Need-part-of-requires (link-function-claims t) (link-function-at t) link_function.Post
-link-function-part-of-requires t c κs = ways.row-sums (link-function-start-from-has-room c.before).pre.1.asks.checked (link-function-start-from-has-room c.before).pre.1.asks.row_in
+link-function-part-of-requires t c κs = ways.row_sums (link-function-start-from-has-room c.before).pre.1.asks.checked (link-function-start-from-has-room c.before).pre.1.asks.row_in
 
 link-function-stray-line-requires : (t : ℕ) → link-function-lts.Need-stray-line-requires (link-function-claims t) (link-function-at t) link_function.Post
-link-function-stray-line-requires t c κs = ways.add-lined (link-function-start-from-part-of c).pre.1 c.part_of.result c.part_of.ensures
+link-function-stray-line-requires t c κs = ways.add_lined (link-function-start-from-part-of c).pre.1 c.part_of.result c.part_of.ensures
 
 link-function-enum-known-found : (t : ℕ) → link-function-lts.Need-enum-known-found (link-function-claims t) (link-function-at t) link_function.Post
 link-function-enum-known-found t c = search rules
@@ -289,19 +289,19 @@ link-function-cast-refusal-2 : (t : ℕ) → link-function-lts.Need-overflow-cas
 link-function-cast-refusal-2 t c = omega (arith, ways.row_small (link-function-start-from-known-told c).pre.1.asks.checked (link-function-start-from-known-told c).pre.1.asks.row_in)
 
 link-function-cast-refusal-3 : (t : ℕ) → link-function-lts.Need-overflow-cast-refusal-3 (link-function-claims t) (link-function-at t) link_function.Post
-link-function-cast-refusal-3 t c = omega (arith, ways.stray-small (link-function-start-from-known-told c).pre.1 _ (found_some _ _ (sym (link-function-stray-line-from-known-told c).stray-line.ensures ∙ c.before.found.given.1)))
+link-function-cast-refusal-3 t c = omega (arith, ways.stray_small (link-function-start-from-known-told c).pre.1 _ (found_some _ _ (sym (link-function-stray-line-from-known-told c).stray-line.ensures ∙ c.before.found.given.1)))
 
 link-function-refusal-requires-2 : (t : ℕ) → link-function-lts.Need-refusal-requires-2 (link-function-claims t) (link-function-at t) link_function.Post
 link-function-refusal-requires-2 t c κs = search rules
 
 link-function-returns-2 : (t : ℕ) → link-function-lts.Need-returns-2 (link-function-claims t) (link-function-at t) link_function.Post
-link-function-returns-2 t c = ways.line-strays (link-function-start-from-refusal2 c).pre.1 (sym (link-function-has-room-from-refusal2 c).has_room.ensures ∙ not-false _ (link-function-else1-from-refusal2 c).if1.left) _ (found_some _ _ (sym (link-function-stray-line-from-refusal2 c).stray-line.ensures ∙ c.before.before.found.given.1)) _ c.refusal2.ensures
+link-function-returns-2 t c = ways.line_strays (link-function-start-from-refusal2 c).pre.1 (sym (link-function-has-room-from-refusal2 c).has_room.ensures ∙ not-false _ (link-function-else1-from-refusal2 c).if1.left) _ (found_some _ _ (sym (link-function-stray-line-from-refusal2 c).stray-line.ensures ∙ c.before.before.found.given.1)) _ c.refusal2.ensures
 
 link-function-enum-told : (t : ℕ) → link-function-lts.Need-enum-told (link-function-claims t) (link-function-at t) link_function.Post
 link-function-enum-told t c = search rules
 
 link-function-extend-requires : (t : ℕ) → link-function-lts.Need-extend-requires (link-function-claims t) (link-function-at t) link_function.Post
-link-function-extend-requires t c κs = ways.add-extends (link-function-start-from-enum-told c.before.before.before).pre.1 (sym (link-function-has-room-from-enum-told c.before.before.before).has_room.ensures ∙ not-false _ (link-function-else1-from-enum-told c.before.before.before).if1.left) (found_none _ (sym c.before.before.before.before.before.stray-line.ensures ∙ c.before.before.before.enum_told.given.1)) (link-function-part-of-from-enum-told c.before.before.before).part_of.ensures
+link-function-extend-requires t c κs = ways.add_extends (link-function-start-from-enum-told c.before.before.before).pre.1 (sym (link-function-has-room-from-enum-told c.before.before.before).has_room.ensures ∙ not-false _ (link-function-else1-from-enum-told c.before.before.before).if1.left) (found_none _ (sym c.before.before.before.before.before.stray-line.ensures ∙ c.before.before.before.enum_told.given.1)) (link-function-part-of-from-enum-told c.before.before.before).part_of.ensures
 
 link-function-cast-next : (t : ℕ) → link-function-lts.Need-overflow-cast-next (link-function-claims t) (link-function-at t) link_function.Post
 link-function-cast-next t c = omega (arith, ways.start_fits (link-function-start-from-extend c.before.before.before.before.before.before.before).pre.1 (sym (link-function-has-room-from-extend c.before.before.before.before.before.before.before).has_room.ensures ∙ not-false _ (link-function-else1-from-extend c.before.before.before.before.before.before.before).if1.left))
@@ -320,8 +320,8 @@ link-function-slot-at-requires-2 t c κs = search rules
 
 link-function-relocate-requires : (t : ℕ) → link-function-lts.Need-relocate-requires (link-function-claims t) (link-function-at t) link_function.Post
 link-function-relocate-requires t c κs = (
-  rw (← (link-function-start-from-extend c.before.before.before.before.before.before.before.before.before.before.before.before).pre.0) (omega (arith, ways.next-falls (link-function-start-from-extend c.before.before.before.before.before.before.before.before.before.before.before.before).pre.1 (sym (link-function-has-room-from-extend c.before.before.before.before.before.before.before.before.before.before.before.before).has_room.ensures ∙ not-false _ (link-function-else1-from-extend c.before.before.before.before.before.before.before.before.before.before.before.before).if1.left) (found_none _ (sym (link-function-stray-line-from-extend c.before.before.before.before.before.before.before.before.before.before.before.before).stray-line.ensures ∙ (link-function-enum-told-from-extend c.before.before.before.before.before.before.before.before.before.before.before.before).enum_told.given.1)) c.before.before.before.before.before.before.before.before.before.before.before.before.extend.ensures)),
-  ways.next-visits (link-function-start-from-extend c.before.before.before.before.before.before.before.before.before.before.before.before).pre.1 (sym (link-function-has-room-from-extend c.before.before.before.before.before.before.before.before.before.before.before.before).has_room.ensures ∙ not-false _ (link-function-else1-from-extend c.before.before.before.before.before.before.before.before.before.before.before.before).if1.left) (found_none _ (sym (link-function-stray-line-from-extend c.before.before.before.before.before.before.before.before.before.before.before.before).stray-line.ensures ∙ (link-function-enum-told-from-extend c.before.before.before.before.before.before.before.before.before.before.before.before).enum_told.given.1)) c.before.before.before.before.before.before.before.before.before.before.before.before.extend.ensures c.before.slot_at.ensures (c.slot-at2.ensures ∙ (link-function-part-of-from-extend c.before.before.before.before.before.before.before.before.before.before.before.before).part_of.ensures.slots-are),
+  rw (← (link-function-start-from-extend c.before.before.before.before.before.before.before.before.before.before.before.before).pre.0) (omega (arith, ways.next_falls (link-function-start-from-extend c.before.before.before.before.before.before.before.before.before.before.before.before).pre.1 (sym (link-function-has-room-from-extend c.before.before.before.before.before.before.before.before.before.before.before.before).has_room.ensures ∙ not-false _ (link-function-else1-from-extend c.before.before.before.before.before.before.before.before.before.before.before.before).if1.left) (found_none _ (sym (link-function-stray-line-from-extend c.before.before.before.before.before.before.before.before.before.before.before.before).stray-line.ensures ∙ (link-function-enum-told-from-extend c.before.before.before.before.before.before.before.before.before.before.before.before).enum_told.given.1)) c.before.before.before.before.before.before.before.before.before.before.before.before.extend.ensures)),
+  ways.next_visits (link-function-start-from-extend c.before.before.before.before.before.before.before.before.before.before.before.before).pre.1 (sym (link-function-has-room-from-extend c.before.before.before.before.before.before.before.before.before.before.before.before).has_room.ensures ∙ not-false _ (link-function-else1-from-extend c.before.before.before.before.before.before.before.before.before.before.before.before).if1.left) (found_none _ (sym (link-function-stray-line-from-extend c.before.before.before.before.before.before.before.before.before.before.before.before).stray-line.ensures ∙ (link-function-enum-told-from-extend c.before.before.before.before.before.before.before.before.before.before.before.before).enum_told.given.1)) c.before.before.before.before.before.before.before.before.before.before.before.before.extend.ensures c.before.slot_at.ensures (c.slot-at2.ensures ∙ (link-function-part-of-from-extend c.before.before.before.before.before.before.before.before.before.before.before.before).part_of.ensures.slots_are),
 )
 
 link-function-same-length : (t : ℕ) → link-function-lts.Need-same-length (link-function-claims t) (link-function-at t) link_function.Post
@@ -334,7 +334,7 @@ link-function-same-length-3 : (t : ℕ) → link-function-lts.Need-same-length-3
 link-function-same-length-3 t c = search rules
 
 link-function-returns-3 : (t : ℕ) → link-function-lts.Need-returns-3 (link-function-claims t) (link-function-at t) link_function.Post
-link-function-returns-3 t c = ways.next-done (link-function-start-from-relocate c.before.before.before.before.before.before).pre.1 (sym (link-function-has-room-from-relocate c.before.before.before.before.before.before).has_room.ensures ∙ not-false _ (link-function-else1-from-relocate c.before.before.before.before.before.before).if1.left) (found_none _ (sym (link-function-stray-line-from-relocate c.before.before.before.before.before.before).stray-line.ensures ∙ (link-function-enum-told-from-relocate c.before.before.before.before.before.before).enum_told.given.1)) (link-function-extend-from-relocate c.before.before.before.before.before.before).extend.ensures _ _ c.before.before.before.before.before.before.before.before.slot_at.ensures c.before.before.before.before.before.before.relocate.ensures
+link-function-returns-3 t c = ways.next_done (link-function-start-from-relocate c.before.before.before.before.before.before).pre.1 (sym (link-function-has-room-from-relocate c.before.before.before.before.before.before).has_room.ensures ∙ not-false _ (link-function-else1-from-relocate c.before.before.before.before.before.before).if1.left) (found_none _ (sym (link-function-stray-line-from-relocate c.before.before.before.before.before.before).stray-line.ensures ∙ (link-function-enum-told-from-relocate c.before.before.before.before.before.before).enum_told.given.1)) (link-function-extend-from-relocate c.before.before.before.before.before.before).extend.ensures _ _ c.before.before.before.before.before.before.before.before.slot_at.ensures c.before.before.before.before.before.before.relocate.ensures
 
 -- ---- placed
 -- the stations that the needs go back to
@@ -354,13 +354,13 @@ abbrev placed-then1-from-link-function : {t : ℕ} → placed::link-function t �
 placed-then1-from-link-function c = c.before.before.before.before
 
 placed-mul-if1 : (t : ℕ) → placed-lts.Need-overflow-mul-if1 (link-function-below t, link_function.Post) (placed_at t) placed.Post
-placed-mul-if1 t c = omega (arith, steps.callee-in c.before.before.before.before.before.before.before.before.before.before.requires.1)
+placed-mul-if1 t c = omega (arith, steps.callee_in c.before.before.before.before.before.before.before.before.before.before.requires.1)
 
 placed-element-copy-out-if1 : (t : ℕ) → placed-lts.Need-element-copy-out-if1 (link-function-below t, link_function.Post) (placed_at t) placed.Post
-placed-element-copy-out-if1 t c = steps.callee-in c.before.before.before.before.before.before.before.before.before.before.requires.1
+placed-element-copy-out-if1 t c = steps.callee_in c.before.before.before.before.before.before.before.before.before.before.requires.1
 
 placed-link-function-requires : (t : ℕ) → placed-lts.Need-link-function-requires (link-function-below t, link_function.Post) (placed_at t) placed.Post
-placed-link-function-requires t c κs = (rw (← c.before.before.before.before.before.before.before.before.before.before.before.before.before.before.before.requires.0) (omega arith), steps.place-adds c.before.before.before.before.before.before.before.before.before.before.before.before.before.before.before.requires.1 c.before.before.before.if1.true)
+placed-link-function-requires t c κs = (rw (← c.before.before.before.before.before.before.before.before.before.before.before.before.before.before.before.requires.0) (omega arith), steps.place_adds c.before.before.before.before.before.before.before.before.before.before.before.before.before.before.before.requires.1 c.before.before.before.if1.true)
 
 placed-same-length : (t : ℕ) → placed-lts.Need-same-length (link-function-below t, link_function.Post) (placed_at t) placed.Post
 placed-same-length t c = search rules
@@ -372,10 +372,10 @@ placed-same-length-3 : (t : ℕ) → placed-lts.Need-same-length-3 (link-functio
 placed-same-length-3 t c = search rules
 
 placed-returns : (t : ℕ) → placed-lts.Need-returns (link-function-below t, link_function.Post) (placed_at t) placed.Post
-placed-returns t c = steps.place-added (placed-start-from-link-function c.before.before.before.before.before.before).pre.1 (placed-then1-from-link-function c.before.before.before.before.before.before).if1.taken _ _ c.before.before.before.before.before.before.link-function.ensures
+placed-returns t c = steps.place_added (placed-start-from-link-function c.before.before.before.before.before.before).pre.1 (placed-then1-from-link-function c.before.before.before.before.before.before).if1.taken _ _ c.before.before.before.before.before.before.link_function.ensures
 
 placed-returns-2 : (t : ℕ) → placed-lts.Need-returns-2 (link-function-below t, link_function.Post) (placed_at t) placed.Post
-placed-returns-2 t c = steps.place-there c.before.before.before.before.before.before.before.before.before.before.before.before.requires.1 c.if1.false
+placed-returns-2 t c = steps.place_there c.before.before.before.before.before.before.before.before.before.before.before.before.requires.1 c.if1.false
 
 -- ---- relocate
 abbrev relocate-Inv-loop2 : relocate-lts.invariant-loop2
@@ -844,13 +844,13 @@ relocate-relocations-before-requires : (t : ℕ) → relocate-lts.Need-relocatio
 relocate-relocations-before-requires t c κs = (relocate-start-from-function-offset c).pre.1.asks.checked.tables.relocations
 
 relocate-loop-holds : (t : ℕ) → relocate-lts.Need-loop-init (relocate-claims t) (relocate-at t) relocate.Post relocate-Inv-loop2 relocate-μ-loop2 relocate-Inv-loop relocate-μ-loop
-relocate-loop-holds t c = ways.begins-at (relocate-start-from-relocations-before c).pre.1 _ _ _ c.before.before.function-section.ensures c.before.function-offset.ensures c.relocations-before.ensures.0 c.relocations-before.ensures.1
+relocate-loop-holds t c = ways.begins_at (relocate-start-from-relocations-before c).pre.1 _ _ _ c.before.before.function-section.ensures c.before.function-offset.ensures c.relocations-before.ensures.0 c.relocations-before.ensures.1
 
 relocate-slot-at-requires : (t : ℕ) → relocate-lts.Need-slot-at-requires (relocate-claims t) (relocate-at t) relocate.Post relocate-Inv-loop2 relocate-μ-loop2 relocate-Inv-loop relocate-μ-loop
 relocate-slot-at-requires t c κs = search rules
 
 relocate-place-requires : (t : ℕ) → relocate-lts.Need-place-requires (relocate-claims t) (relocate-at t) relocate.Post relocate-Inv-loop2 relocate-μ-loop2 relocate-Inv-loop relocate-μ-loop
-relocate-place-requires t c κs = omega (arith, ways.offset-low (relocate-start-from-slot-at c).pre.1, (relocate-function-offset-from-slot-at c).function-offset.ensures)
+relocate-place-requires t c κs = omega (arith, ways.offset_low (relocate-start-from-slot-at c).pre.1, (relocate-function-offset-from-slot-at c).function-offset.ensures)
 
 relocate-loop2-holds : (t : ℕ) → relocate-lts.Need-loop2-init (relocate-claims t) (relocate-at t) relocate.Post relocate-Inv-loop2 relocate-μ-loop2 relocate-Inv-loop relocate-μ-loop
 relocate-loop2-holds t c = (relocate-loop-from-place c).loop.inv.1
@@ -868,7 +868,7 @@ relocate-loop2-less : (t : ℕ) → relocate-lts.Need-loop2-smaller (relocate-cl
 relocate-loop2-less t c = omega (arith, (ways.lt_of (relocate-loop2-from-is-relocation-before c.before).loop2.inv.0 (relocate-else1-from-is-relocation-before c.before).if1.left))
 
 relocate-loop2-again : (t : ℕ) → relocate-lts.Need-loop2-preserved (relocate-claims t) (relocate-at t) relocate.Post relocate-Inv-loop2 relocate-μ-loop2 relocate-Inv-loop relocate-μ-loop
-relocate-loop2-again t c = (omega (arith, ways.lt_of (relocate-loop2-from-is-relocation-before c.before).loop2.inv.0 (relocate-else1-from-is-relocation-before c.before).if1.left), ways.goes_on (relocate-start-from-is-relocation-before c.before).pre.1 (relocate-loop2-from-is-relocation-before c.before).loop2.cur (relocate-function-section-from-is-relocation-before c.before).function-section.ensures (ways.at-is (relocate-function-offset-from-is-relocation-before c.before).function-offset.ensures (relocate-slot-at-from-is-relocation-before c.before).slot_at.ensures (relocate-place-from-is-relocation-before c.before).place.ensures.0) (relocate-loop2-from-is-relocation-before c.before).loop2.inv.1 c.before.is-relocation-before.ensures (not-false _ c.if3.false))
+relocate-loop2-again t c = (omega (arith, ways.lt_of (relocate-loop2-from-is-relocation-before c.before).loop2.inv.0 (relocate-else1-from-is-relocation-before c.before).if1.left), ways.goes_on (relocate-start-from-is-relocation-before c.before).pre.1 (relocate-loop2-from-is-relocation-before c.before).loop2.cur (relocate-function-section-from-is-relocation-before c.before).function-section.ensures (ways.at_is (relocate-function-offset-from-is-relocation-before c.before).function-offset.ensures (relocate-slot-at-from-is-relocation-before c.before).slot_at.ensures (relocate-place-from-is-relocation-before c.before).place.ensures.0) (relocate-loop2-from-is-relocation-before c.before).loop2.inv.1 c.before.is-relocation-before.ensures (not-false _ c.if3.false))
 
 -- what the search found
 found-is : (t : ℕ) (c : relocate-lts.Joined1 (relocate-claims t) (relocate-at t) relocate.Post relocate-Inv-loop2 relocate-μ-loop2 relocate-Inv-loop relocate-μ-loop) →
@@ -877,10 +877,10 @@ found-is : (t : ℕ) (c : relocate-lts.Joined1 (relocate-claims t) (relocate-at 
 found-is t c =
     let l = c.before.loop2 in
     ⊎_elim
-    (λ w. w.1 ∙ ways.found-end (relocate-start-from-found c).pre.1 _ l.cur l.invariant.1 (ways.ge-of w.0.taken))
+    (λ w. w.1 ∙ ways.found_end (relocate-start-from-found c).pre.1 _ l.cur l.invariant.1 (ways.ge_of w.0.taken))
     (⊎_elim
-    (λ w. w.3 ∙ ways.found-row' (relocate-start-from-found c).pre.1 l.cur (relocate-function-section-from-found c).function-section.ensures (ways.at-is (relocate-function-offset-from-found c).function-offset.ensures (relocate-slot-at-from-found c).slot_at.ensures c.before.before.place.ensures.0) l.invariant.1 (ways.lt_of l.invariant.0 w.0.left) w.1.ensures w.2.taken)
-    (λ w. w.5 ∙ ways.found-later' (relocate-start-from-found c).pre.1 l.cur (relocate-function-section-from-found c).function-section.ensures (ways.at-is (relocate-function-offset-from-found c).function-offset.ensures (relocate-slot-at-from-found c).slot_at.ensures c.before.before.place.ensures.0) l.invariant.1 (ways.lt_of l.invariant.0 w.0.left) w.1.ensures w.2.left w.3.ensures (not-true _ w.4.taken)))
+    (λ w. w.3 ∙ ways.found_row' (relocate-start-from-found c).pre.1 l.cur (relocate-function-section-from-found c).function-section.ensures (ways.at_is (relocate-function-offset-from-found c).function-offset.ensures (relocate-slot-at-from-found c).slot_at.ensures c.before.before.place.ensures.0) l.invariant.1 (ways.lt_of l.invariant.0 w.0.left) w.1.ensures w.2.taken)
+    (λ w. w.5 ∙ ways.found_later' (relocate-start-from-found c).pre.1 l.cur (relocate-function-section-from-found c).function-section.ensures (ways.at_is (relocate-function-offset-from-found c).function-offset.ensures (relocate-slot-at-from-found c).slot_at.ensures c.before.before.place.ensures.0) l.invariant.1 (ways.lt_of l.invariant.0 w.0.left) w.1.ensures w.2.left w.3.ensures (not-true _ w.4.taken)))
     c.if1.branch
 
 -- the slot that was resolved is the one that the loop stands at
@@ -899,19 +899,19 @@ relocate-resolve-requires : (t : ℕ) → relocate-lts.Need-resolve-requires (re
 relocate-resolve-requires t c κs =
     let a = (relocate-start-from-found c).args in
     subst (λ (n : ℕ). Resolves (offered_code a.code a.symbols a.functions a.relocations a.instructions) a.row a.first.0 n c.if1.rel)
-    (sym (relocate-slot-at-from-found c).slot_at.ensures) (ways.resolves (relocate-start-from-found c).pre.1 (relocate-loop-from-found c).loop.inv.0 (ways.turn-of (relocate-function-slots-from-found c).function-slots.ensures (relocate-turn-from-found c).loop-test.taken) _ (found-is t c))
+    (sym (relocate-slot-at-from-found c).slot_at.ensures) (ways.resolves (relocate-start-from-found c).pre.1 (relocate-loop-from-found c).loop.inv.0 (ways.turn_of (relocate-function-slots-from-found c).function-slots.ensures (relocate-turn-from-found c).loop-test.taken) _ (found-is t c))
 
 relocate-enum-told : (t : ℕ) → relocate-lts.Need-enum-told (relocate-claims t) (relocate-at t) relocate.Post relocate-Inv-loop2 relocate-μ-loop2 relocate-Inv-loop relocate-μ-loop
 relocate-enum-told t c = search rules
 
 relocate-add-slot : (t : ℕ) → relocate-lts.Need-overflow-add-slot (relocate-claims t) (relocate-at t) relocate.Post relocate-Inv-loop2 relocate-μ-loop2 relocate-Inv-loop relocate-μ-loop
-relocate-add-slot t c = omega (arith, (ways.slots-low (relocate-start-from-enum-told c).pre.1), (ways.turn-of (relocate-function-slots-from-enum-told c).function-slots.ensures (relocate-turn-from-enum-told c).loop-test.taken))
+relocate-add-slot t c = omega (arith, (ways.slots_low (relocate-start-from-enum-told c).pre.1), (ways.turn_of (relocate-function-slots-from-enum-told c).function-slots.ensures (relocate-turn-from-enum-told c).loop-test.taken))
 
 relocate-loop-less : (t : ℕ) → relocate-lts.Need-loop-smaller (relocate-claims t) (relocate-at t) relocate.Post relocate-Inv-loop2 relocate-μ-loop2 relocate-Inv-loop relocate-μ-loop
-relocate-loop-less t c = omega (arith, (ways.turn-of (relocate-function-slots-from-enum-told c).function-slots.ensures (relocate-turn-from-enum-told c).loop-test.taken), (relocate-turn-from-enum-told c).loop-test.taken)
+relocate-loop-less t c = omega (arith, (ways.turn_of (relocate-function-slots-from-enum-told c).function-slots.ensures (relocate-turn-from-enum-told c).loop-test.taken), (relocate-turn-from-enum-told c).loop-test.taken)
 
 relocate-loop-again : (t : ℕ) → relocate-lts.Need-loop-preserved (relocate-claims t) (relocate-at t) relocate.Post relocate-Inv-loop2 relocate-μ-loop2 relocate-Inv-loop relocate-μ-loop
-relocate-loop-again t c = (ways.on-copied (relocate-start-from-enum-told c).pre.1 (relocate-loop-from-enum-told c).loop.inv.0 (ways.turn-of (relocate-function-slots-from-enum-told c).function-slots.ensures (relocate-turn-from-enum-told c).loop-test.taken) c.enum_told.given.1 (relocate-means c.before.before), ((relocate-loop2-from-enum-told c).loop2.inv.0, ways.behind-next (relocate-start-from-enum-told c).pre.1 (relocate-loop-from-enum-told c).loop.slot (relocate-loop2-from-enum-told c).loop2.cur (relocate-loop2-from-enum-told c).loop2.inv.1))
+relocate-loop-again t c = (ways.on_copied (relocate-start-from-enum-told c).pre.1 (relocate-loop-from-enum-told c).loop.inv.0 (ways.turn_of (relocate-function-slots-from-enum-told c).function-slots.ensures (relocate-turn-from-enum-told c).loop-test.taken) c.enum_told.given.1 (relocate-means c.before.before), ((relocate-loop2-from-enum-told c).loop2.inv.0, ways.behind_next (relocate-start-from-enum-told c).pre.1 (relocate-loop-from-enum-told c).loop.slot (relocate-loop2-from-enum-told c).loop2.cur (relocate-loop2-from-enum-told c).loop2.inv.1))
 
 relocate-enum-known-meaning : (t : ℕ) → relocate-lts.Need-enum-known-meaning (relocate-claims t) (relocate-at t) relocate.Post relocate-Inv-loop2 relocate-μ-loop2 relocate-Inv-loop relocate-μ-loop
 relocate-enum-known-meaning t c = search rules
@@ -926,13 +926,13 @@ relocate-same-length-3 : (t : ℕ) → relocate-lts.Need-same-length-3 (relocate
 relocate-same-length-3 t c = ap (λ x. x.line_info) (relocate-loop-from-known-told c).loop.inv.0.lengths
 
 relocate-returns : (t : ℕ) → relocate-lts.Need-returns (relocate-claims t) (relocate-at t) relocate.Post relocate-Inv-loop2 relocate-μ-loop2 relocate-Inv-loop relocate-μ-loop
-relocate-returns t c = ways.on-refused (relocate-start-from-known-told c).pre.1 (relocate-loop-from-known-told c).loop.inv.0 (ways.turn-of (relocate-function-slots-from-known-told c).function-slots.ensures (relocate-turn-from-known-told c).loop-test.taken) _ c.before.meaning.given.1 (relocate-means (relocate-resolve-from-known-told c))
+relocate-returns t c = ways.on_refused (relocate-start-from-known-told c).pre.1 (relocate-loop-from-known-told c).loop.inv.0 (ways.turn_of (relocate-function-slots-from-known-told c).function-slots.ensures (relocate-turn-from-known-told c).loop-test.taken) _ c.before.meaning.given.1 (relocate-means (relocate-resolve-from-known-told c))
 
 relocate-enum-known-meaning-2 : (t : ℕ) → relocate-lts.Need-enum-known-meaning-2 (relocate-claims t) (relocate-at t) relocate.Post relocate-Inv-loop2 relocate-μ-loop2 relocate-Inv-loop relocate-μ-loop
 relocate-enum-known-meaning-2 t c = search rules
 
 relocate-placed-requires : (t : ℕ) → relocate-lts.Need-placed-requires (relocate-claims t) (relocate-at t) relocate.Post relocate-Inv-loop2 relocate-μ-loop2 relocate-Inv-loop relocate-μ-loop
-relocate-placed-requires t c κs = (rw (← (relocate-start-from-known-told2 c.before.before.before).pre.0) (omega (arith, steps.visit-falls (relocate-start-from-known-told2 c.before.before.before).pre.1 (relocate-loop-from-known-told2 c.before.before.before).loop.inv.0)), ways.asks-placed (relocate-start-from-known-told2 c.before.before.before).pre.1 (relocate-loop-from-known-told2 c.before.before.before).loop.inv.0 (ways.turn-of (relocate-function-slots-from-known-told2 c.before.before.before).function-slots.ensures (relocate-turn-from-known-told2 c.before.before.before).loop-test.taken) c.before.before.before.before.meaning2.given.0.0 c.before.before.before.before.meaning2.given.0.1.0 c.before.before.before.before.meaning2.given.1 (relocate-means (relocate-resolve-from-known-told2 c.before.before.before)))
+relocate-placed-requires t c κs = (rw (← (relocate-start-from-known-told2 c.before.before.before).pre.0) (omega (arith, steps.visit_falls (relocate-start-from-known-told2 c.before.before.before).pre.1 (relocate-loop-from-known-told2 c.before.before.before).loop.inv.0)), ways.asks_placed (relocate-start-from-known-told2 c.before.before.before).pre.1 (relocate-loop-from-known-told2 c.before.before.before).loop.inv.0 (ways.turn_of (relocate-function-slots-from-known-told2 c.before.before.before).function-slots.ensures (relocate-turn-from-known-told2 c.before.before.before).loop-test.taken) c.before.before.before.before.meaning2.given.0.0 c.before.before.before.before.meaning2.given.0.1.0 c.before.before.before.before.meaning2.given.1 (relocate-means (relocate-resolve-from-known-told2 c.before.before.before)))
 
 relocate-enum-told-2 : (t : ℕ) → relocate-lts.Need-enum-told-2 (relocate-claims t) (relocate-at t) relocate.Post relocate-Inv-loop2 relocate-μ-loop2 relocate-Inv-loop relocate-μ-loop
 relocate-enum-told-2 t c = search rules
@@ -950,38 +950,38 @@ relocate-same-length-6 : (t : ℕ) → relocate-lts.Need-same-length-6 (relocate
 relocate-same-length-6 t c = ap (λ x. x.line_info) ((relocate-placed-from-enum-told3 c).placed.ensures.gives.lengths ∙ (relocate-loop-from-enum-told3 c).loop.inv.0.lengths)
 
 relocate-returns-2 : (t : ℕ) → relocate-lts.Need-returns-2 (relocate-claims t) (relocate-at t) relocate.Post relocate-Inv-loop2 relocate-μ-loop2 relocate-Inv-loop relocate-μ-loop
-relocate-returns-2 t c = ways.out-refused (relocate-start-from-enum-told3 c).pre.1 (relocate-loop-from-enum-told3 c).loop.inv.0 (ways.turn-of (relocate-function-slots-from-enum-told3 c).function-slots.ensures (relocate-turn-from-enum-told3 c).loop-test.taken) (relocate-meaning2-from-enum-told3 c).meaning2.given.0.0 (relocate-meaning2-from-enum-told3 c).meaning2.given.0.1.0 (relocate-meaning2-from-enum-told3 c).meaning2.given.1 (relocate-means (relocate-resolve-from-enum-told3 c)) (relocate-placed-from-enum-told3 c).placed.ensures (told_refused c.enum-told3.given.1)
+relocate-returns-2 t c = ways.out_refused (relocate-start-from-enum-told3 c).pre.1 (relocate-loop-from-enum-told3 c).loop.inv.0 (ways.turn_of (relocate-function-slots-from-enum-told3 c).function-slots.ensures (relocate-turn-from-enum-told3 c).loop-test.taken) (relocate-meaning2-from-enum-told3 c).meaning2.given.0.0 (relocate-meaning2-from-enum-told3 c).meaning2.given.0.1.0 (relocate-meaning2-from-enum-told3 c).meaning2.given.1 (relocate-means (relocate-resolve-from-enum-told3 c)) (relocate-placed-from-enum-told3 c).placed.ensures (told_refused c.enum-told3.given.1)
 
 -- and so is the slot of the image that is pointed
 here_is : {t : ℕ} (c : relocate·after t) → c.after.result.0 ≡ (relocate-start-from-after c).args.start.0 + (relocate-loop-from-after c).loop.slot
 here_is c = omega (arith, c.after.ensures, (relocate-slot-at-from-resolve (relocate-resolve-from-after c)).slot_at.ensures)
 
 relocate-after-requires : (t : ℕ) → relocate-lts.Need-after-requires (relocate-claims t) (relocate-at t) relocate.Post relocate-Inv-loop2 relocate-μ-loop2 relocate-Inv-loop relocate-μ-loop
-relocate-after-requires t c κs = omega (arith, (relocate-slot-at-from-resolve (relocate-resolve-from-enum-told2 c.before.before)).slot_at.ensures, ways.here-low (relocate-start-from-enum-told2 c.before.before).pre.1 (relocate-loop-from-enum-told2 c.before.before).loop.inv.0 (ways.turn-of (relocate-function-slots-from-enum-told2 c.before.before).function-slots.ensures (relocate-turn-from-enum-told2 c.before.before).loop-test.taken) (relocate-meaning2-from-enum-told2 c.before.before).meaning2.given.0.0 (relocate-meaning2-from-enum-told2 c.before.before).meaning2.given.0.1.0 (relocate-meaning2-from-enum-told2 c.before.before).meaning2.given.1 (relocate-means (relocate-resolve-from-enum-told2 c.before.before)) (relocate-placed-from-enum-told2 c.before.before).placed.ensures (ap refusal_in c.before.before.enum-told2.given.1))
+relocate-after-requires t c κs = omega (arith, (relocate-slot-at-from-resolve (relocate-resolve-from-enum-told2 c.before.before)).slot_at.ensures, ways.here_low (relocate-start-from-enum-told2 c.before.before).pre.1 (relocate-loop-from-enum-told2 c.before.before).loop.inv.0 (ways.turn_of (relocate-function-slots-from-enum-told2 c.before.before).function-slots.ensures (relocate-turn-from-enum-told2 c.before.before).loop-test.taken) (relocate-meaning2-from-enum-told2 c.before.before).meaning2.given.0.0 (relocate-meaning2-from-enum-told2 c.before.before).meaning2.given.0.1.0 (relocate-meaning2-from-enum-told2 c.before.before).meaning2.given.1 (relocate-means (relocate-resolve-from-enum-told2 c.before.before)) (relocate-placed-from-enum-told2 c.before.before).placed.ensures (ap refusal_in c.before.before.enum-told2.given.1))
 
 relocate-mul-slot-at : (t : ℕ) → relocate-lts.Need-overflow-mul-slot-at (relocate-claims t) (relocate-at t) relocate.Post relocate-Inv-loop2 relocate-μ-loop2 relocate-Inv-loop relocate-μ-loop
-relocate-mul-slot-at t c = omega (arith, ways.row_small (relocate-start-from-after c).pre.1.asks.checked (ways.asks-placed (relocate-start-from-after c).pre.1 (relocate-loop-from-after c).loop.inv.0 (ways.turn-of (relocate-function-slots-from-after c).function-slots.ensures (relocate-turn-from-after c).loop-test.taken) (relocate-meaning2-from-after c).meaning2.given.0.0 (relocate-meaning2-from-after c).meaning2.given.0.1.0 (relocate-meaning2-from-after c).meaning2.given.1 (relocate-means (relocate-resolve-from-after c))).row_in)
+relocate-mul-slot-at t c = omega (arith, ways.row_small (relocate-start-from-after c).pre.1.asks.checked (ways.asks_placed (relocate-start-from-after c).pre.1 (relocate-loop-from-after c).loop.inv.0 (ways.turn_of (relocate-function-slots-from-after c).function-slots.ensures (relocate-turn-from-after c).loop-test.taken) (relocate-meaning2-from-after c).meaning2.given.0.0 (relocate-meaning2-from-after c).meaning2.given.0.1.0 (relocate-meaning2-from-after c).meaning2.given.1 (relocate-means (relocate-resolve-from-after c))).row_in)
 
 relocate-element-copy-out-slot-at : (t : ℕ) → relocate-lts.Need-element-copy-out-slot-at (relocate-claims t) (relocate-at t) relocate.Post relocate-Inv-loop2 relocate-μ-loop2 relocate-Inv-loop relocate-μ-loop
-relocate-element-copy-out-slot-at t c = ways.row_small (relocate-start-from-after c).pre.1.asks.checked (ways.asks-placed (relocate-start-from-after c).pre.1 (relocate-loop-from-after c).loop.inv.0 (ways.turn-of (relocate-function-slots-from-after c).function-slots.ensures (relocate-turn-from-after c).loop-test.taken) (relocate-meaning2-from-after c).meaning2.given.0.0 (relocate-meaning2-from-after c).meaning2.given.0.1.0 (relocate-meaning2-from-after c).meaning2.given.1 (relocate-means (relocate-resolve-from-after c))).row_in
+relocate-element-copy-out-slot-at t c = ways.row_small (relocate-start-from-after c).pre.1.asks.checked (ways.asks_placed (relocate-start-from-after c).pre.1 (relocate-loop-from-after c).loop.inv.0 (ways.turn_of (relocate-function-slots-from-after c).function-slots.ensures (relocate-turn-from-after c).loop-test.taken) (relocate-meaning2-from-after c).meaning2.given.0.0 (relocate-meaning2-from-after c).meaning2.given.0.1.0 (relocate-meaning2-from-after c).meaning2.given.1 (relocate-means (relocate-resolve-from-after c))).row_in
 
 relocate-cast-slot-at : (t : ℕ) → relocate-lts.Need-overflow-cast-slot-at (relocate-claims t) (relocate-at t) relocate.Post relocate-Inv-loop2 relocate-μ-loop2 relocate-Inv-loop relocate-μ-loop
-relocate-cast-slot-at t c = omega (arith, ways.start-low (relocate-start-from-after c.before).pre.1 (relocate-loop-from-after c.before).loop.inv.0 (ways.turn-of (relocate-function-slots-from-after c.before).function-slots.ensures (relocate-turn-from-after c.before).loop-test.taken) (relocate-meaning2-from-after c.before).meaning2.given.0.0 (relocate-meaning2-from-after c.before).meaning2.given.0.1.0 (relocate-meaning2-from-after c.before).meaning2.given.1 (relocate-means (relocate-resolve-from-after c.before)) (relocate-placed-from-after c.before).placed.ensures (ap refusal_in (relocate-enum-told2-from-after c.before).enum-told2.given.1))
+relocate-cast-slot-at t c = omega (arith, ways.start_low (relocate-start-from-after c.before).pre.1 (relocate-loop-from-after c.before).loop.inv.0 (ways.turn_of (relocate-function-slots-from-after c.before).function-slots.ensures (relocate-turn-from-after c.before).loop-test.taken) (relocate-meaning2-from-after c.before).meaning2.given.0.0 (relocate-meaning2-from-after c.before).meaning2.given.0.1.0 (relocate-meaning2-from-after c.before).meaning2.given.1 (relocate-means (relocate-resolve-from-after c.before)) (relocate-placed-from-after c.before).placed.ensures (ap refusal_in (relocate-enum-told2-from-after c.before).enum-told2.given.1))
 
 relocate-slot-at-requires-2 : (t : ℕ) → relocate-lts.Need-slot-at-requires-2 (relocate-claims t) (relocate-at t) relocate.Post relocate-Inv-loop2 relocate-μ-loop2 relocate-Inv-loop relocate-μ-loop
 relocate-slot-at-requires-2 t c κs = search rules
 
 relocate-point-requires : (t : ℕ) → relocate-lts.Need-point-requires (relocate-claims t) (relocate-at t) relocate.Post relocate-Inv-loop2 relocate-μ-loop2 relocate-Inv-loop relocate-μ-loop
-relocate-point-requires t c κs = (omega (arith, ways.here-room (relocate-start-from-slot-at2 c).pre.1 (relocate-loop-from-slot-at2 c).loop.inv.0 (ways.turn-of (relocate-function-slots-from-slot-at2 c).function-slots.ensures (relocate-turn-from-slot-at2 c).loop-test.taken) (relocate-meaning2-from-slot-at2 c).meaning2.given.0.0 (relocate-meaning2-from-slot-at2 c).meaning2.given.0.1.0 (relocate-meaning2-from-slot-at2 c).meaning2.given.1 (relocate-means (relocate-resolve-from-slot-at2 c)) (relocate-placed-from-slot-at2 c).placed.ensures (ap refusal_in (relocate-enum-told2-from-slot-at2 c).enum-told2.given.1), c.before.before.after.ensures, (relocate-slot-at-from-resolve (relocate-resolve-from-slot-at2 c)).slot_at.ensures), (omega (arith, ways.start-low (relocate-start-from-slot-at2 c).pre.1 (relocate-loop-from-slot-at2 c).loop.inv.0 (ways.turn-of (relocate-function-slots-from-slot-at2 c).function-slots.ensures (relocate-turn-from-slot-at2 c).loop-test.taken) (relocate-meaning2-from-slot-at2 c).meaning2.given.0.0 (relocate-meaning2-from-slot-at2 c).meaning2.given.0.1.0 (relocate-meaning2-from-slot-at2 c).meaning2.given.1 (relocate-means (relocate-resolve-from-slot-at2 c)) (relocate-placed-from-slot-at2 c).placed.ensures (ap refusal_in (relocate-enum-told2-from-slot-at2 c).enum-told2.given.1), c.slot-at2.ensures), omega (arith, ways.here-low (relocate-start-from-slot-at2 c).pre.1 (relocate-loop-from-slot-at2 c).loop.inv.0 (ways.turn-of (relocate-function-slots-from-slot-at2 c).function-slots.ensures (relocate-turn-from-slot-at2 c).loop-test.taken) (relocate-meaning2-from-slot-at2 c).meaning2.given.0.0 (relocate-meaning2-from-slot-at2 c).meaning2.given.0.1.0 (relocate-meaning2-from-slot-at2 c).meaning2.given.1 (relocate-means (relocate-resolve-from-slot-at2 c)) (relocate-placed-from-slot-at2 c).placed.ensures (ap refusal_in (relocate-enum-told2-from-slot-at2 c).enum-told2.given.1), c.before.before.after.ensures, (relocate-slot-at-from-resolve (relocate-resolve-from-slot-at2 c)).slot_at.ensures)))
+relocate-point-requires t c κs = (omega (arith, ways.here_room (relocate-start-from-slot-at2 c).pre.1 (relocate-loop-from-slot-at2 c).loop.inv.0 (ways.turn_of (relocate-function-slots-from-slot-at2 c).function-slots.ensures (relocate-turn-from-slot-at2 c).loop-test.taken) (relocate-meaning2-from-slot-at2 c).meaning2.given.0.0 (relocate-meaning2-from-slot-at2 c).meaning2.given.0.1.0 (relocate-meaning2-from-slot-at2 c).meaning2.given.1 (relocate-means (relocate-resolve-from-slot-at2 c)) (relocate-placed-from-slot-at2 c).placed.ensures (ap refusal_in (relocate-enum-told2-from-slot-at2 c).enum-told2.given.1), c.before.before.after.ensures, (relocate-slot-at-from-resolve (relocate-resolve-from-slot-at2 c)).slot_at.ensures), (omega (arith, ways.start_low (relocate-start-from-slot-at2 c).pre.1 (relocate-loop-from-slot-at2 c).loop.inv.0 (ways.turn_of (relocate-function-slots-from-slot-at2 c).function-slots.ensures (relocate-turn-from-slot-at2 c).loop-test.taken) (relocate-meaning2-from-slot-at2 c).meaning2.given.0.0 (relocate-meaning2-from-slot-at2 c).meaning2.given.0.1.0 (relocate-meaning2-from-slot-at2 c).meaning2.given.1 (relocate-means (relocate-resolve-from-slot-at2 c)) (relocate-placed-from-slot-at2 c).placed.ensures (ap refusal_in (relocate-enum-told2-from-slot-at2 c).enum-told2.given.1), c.slot-at2.ensures), omega (arith, ways.here_low (relocate-start-from-slot-at2 c).pre.1 (relocate-loop-from-slot-at2 c).loop.inv.0 (ways.turn_of (relocate-function-slots-from-slot-at2 c).function-slots.ensures (relocate-turn-from-slot-at2 c).loop-test.taken) (relocate-meaning2-from-slot-at2 c).meaning2.given.0.0 (relocate-meaning2-from-slot-at2 c).meaning2.given.0.1.0 (relocate-meaning2-from-slot-at2 c).meaning2.given.1 (relocate-means (relocate-resolve-from-slot-at2 c)) (relocate-placed-from-slot-at2 c).placed.ensures (ap refusal_in (relocate-enum-told2-from-slot-at2 c).enum-told2.given.1), c.before.before.after.ensures, (relocate-slot-at-from-resolve (relocate-resolve-from-slot-at2 c)).slot_at.ensures)))
 
 relocate-add-slot-2 : (t : ℕ) → relocate-lts.Need-overflow-add-slot-2 (relocate-claims t) (relocate-at t) relocate.Post relocate-Inv-loop2 relocate-μ-loop2 relocate-Inv-loop relocate-μ-loop
-relocate-add-slot-2 t c = omega (arith, (ways.slots-low (relocate-start-from-point c.before.before).pre.1), (ways.turn-of (relocate-function-slots-from-point c.before.before).function-slots.ensures (relocate-turn-from-point c.before.before).loop-test.taken))
+relocate-add-slot-2 t c = omega (arith, (ways.slots_low (relocate-start-from-point c.before.before).pre.1), (ways.turn_of (relocate-function-slots-from-point c.before.before).function-slots.ensures (relocate-turn-from-point c.before.before).loop-test.taken))
 
 relocate-loop-less-2 : (t : ℕ) → relocate-lts.Need-loop-smaller-2 (relocate-claims t) (relocate-at t) relocate.Post relocate-Inv-loop2 relocate-μ-loop2 relocate-Inv-loop relocate-μ-loop
-relocate-loop-less-2 t c = omega (arith, (ways.turn-of (relocate-function-slots-from-point c.before.before).function-slots.ensures (relocate-turn-from-point c.before.before).loop-test.taken), (relocate-turn-from-point c.before.before).loop-test.taken)
+relocate-loop-less-2 t c = omega (arith, (ways.turn_of (relocate-function-slots-from-point c.before.before).function-slots.ensures (relocate-turn-from-point c.before.before).loop-test.taken), (relocate-turn-from-point c.before.before).loop-test.taken)
 
 relocate-loop-again-2 : (t : ℕ) → relocate-lts.Need-loop-preserved-2 (relocate-claims t) (relocate-at t) relocate.Post relocate-Inv-loop2 relocate-μ-loop2 relocate-Inv-loop relocate-μ-loop
-relocate-loop-again-2 t c = (ways.on-pointed (relocate-start-from-point c.before.before).pre.1 (relocate-loop-from-point c.before.before).loop.inv.0 (ways.turn-of (relocate-function-slots-from-point c.before.before).function-slots.ensures (relocate-turn-from-point c.before.before).loop-test.taken) (relocate-meaning2-from-point c.before.before).meaning2.given.0.0 (relocate-meaning2-from-point c.before.before).meaning2.given.0.1.0 (relocate-meaning2-from-point c.before.before).meaning2.given.1 (relocate-means (relocate-resolve-from-point c.before.before)) (relocate-placed-from-point c.before.before).placed.ensures (ap refusal_in (relocate-enum-told2-from-point c.before.before).enum-told2.given.1) _ (here_is (relocate-after-from-point c.before.before)) c.before.before.before.slot-at2.ensures c.before.before.point.ensures, ((relocate-loop2-from-point c.before.before).loop2.inv.0, ways.behind-next (relocate-start-from-point c.before.before).pre.1 (relocate-loop-from-point c.before.before).loop.slot (relocate-loop2-from-point c.before.before).loop2.cur (relocate-loop2-from-point c.before.before).loop2.inv.1))
+relocate-loop-again-2 t c = (ways.on_pointed (relocate-start-from-point c.before.before).pre.1 (relocate-loop-from-point c.before.before).loop.inv.0 (ways.turn_of (relocate-function-slots-from-point c.before.before).function-slots.ensures (relocate-turn-from-point c.before.before).loop-test.taken) (relocate-meaning2-from-point c.before.before).meaning2.given.0.0 (relocate-meaning2-from-point c.before.before).meaning2.given.0.1.0 (relocate-meaning2-from-point c.before.before).meaning2.given.1 (relocate-means (relocate-resolve-from-point c.before.before)) (relocate-placed-from-point c.before.before).placed.ensures (ap refusal_in (relocate-enum-told2-from-point c.before.before).enum-told2.given.1) _ (here_is (relocate-after-from-point c.before.before)) c.before.before.before.slot-at2.ensures c.before.before.point.ensures, ((relocate-loop2-from-point c.before.before).loop2.inv.0, ways.behind_next (relocate-start-from-point c.before.before).pre.1 (relocate-loop-from-point c.before.before).loop.slot (relocate-loop2-from-point c.before.before).loop2.cur (relocate-loop2-from-point c.before.before).loop2.inv.1))
 
 relocate-same-length-7 : (t : ℕ) → relocate-lts.Need-same-length-7 (relocate-claims t) (relocate-at t) relocate.Post relocate-Inv-loop2 relocate-μ-loop2 relocate-Inv-loop relocate-μ-loop
 relocate-same-length-7 t c = ap (λ x. x.image) c.before.loop.invariant.0.lengths
@@ -993,7 +993,7 @@ relocate-same-length-9 : (t : ℕ) → relocate-lts.Need-same-length-9 (relocate
 relocate-same-length-9 t c = ap (λ x. x.line_info) c.before.loop.invariant.0.lengths
 
 relocate-returns-3 : (t : ℕ) → relocate-lts.Need-returns-3 (relocate-claims t) (relocate-at t) relocate.Post relocate-Inv-loop2 relocate-μ-loop2 relocate-Inv-loop relocate-μ-loop
-relocate-returns-3 t c = steps.visit-done (relocate-start-from-end-of-loop c).pre.1 c.before.loop.invariant.0 (ways.over-of (relocate-function-slots-from-end-of-loop c).function-slots.ensures c.loop-test.false)
+relocate-returns-3 t c = steps.visit_done (relocate-start-from-end-of-loop c).pre.1 c.before.loop.invariant.0 (ways.over_of (relocate-function-slots-from-end-of-loop c).function-slots.ensures c.loop-test.false)
 
 pub +link-function-placed-relocate-spec : {M : Type 1} → statement M
 +link-function-placed-relocate-spec =

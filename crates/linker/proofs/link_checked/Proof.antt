@@ -94,10 +94,10 @@ refusal-requires : tie.Need-refusal-requires
 refusal-requires c κs = search rules
 
 returns : tie.Need-returns
-returns c = whole.root-refused (start-from-refusal c).pre (sym c.before.before.has_room.ensures ∙ not-true _ c.before.if1.true) _ c.refusal.ensures
+returns c = whole.root_refused (start-from-refusal c).pre (sym c.before.before.has_room.ensures ∙ not-true _ c.before.if1.true) _ c.refusal.ensures
 
 part-of-requires : tie.Need-part-of-requires
-part-of-requires c κs = ways.row-sums (start-from-has-room c.before).pre.checked (start-from-has-room c.before).pre.root_in
+part-of-requires c κs = ways.row_sums (start-from-has-room c.before).pre.checked (start-from-has-room c.before).pre.root_in
 
 begin-requires : tie.Need-begin-requires
 begin-requires c κs = whole.begins (start-from-part-of c.before.before.before).pre (sym c.before.before.before.before.before.has_room.ensures ∙ not-false _ c.before.before.before.before.if1.false) c.before.before.before.part_of.ensures
@@ -109,7 +109,7 @@ slot-at-requires-2 : tie.Need-slot-at-requires-2
 slot-at-requires-2 c κs = search rules
 
 relocate-requires : tie.Need-relocate-requires
-relocate-requires c κs = whole.begun-visits (start-from-begin c.before.before.before.before.before.before.before.before.before.before.before).pre (sym (has-room-from-begin c.before.before.before.before.before.before.before.before.before.before.before).has_room.ensures ∙ not-false _ (else1-from-begin c.before.before.before.before.before.before.before.before.before.before.before).if1.left) c.before.before.before.before.before.before.before.before.before.before.before.begin.ensures c.before.slot_at.ensures (c.slot-at2.ensures ∙ (part-of-from-begin c.before.before.before.before.before.before.before.before.before.before.before).part_of.ensures.slots-are)
+relocate-requires c κs = whole.begun_visits (start-from-begin c.before.before.before.before.before.before.before.before.before.before.before).pre (sym (has-room-from-begin c.before.before.before.before.before.before.before.before.before.before.before).has_room.ensures ∙ not-false _ (else1-from-begin c.before.before.before.before.before.before.before.before.before.before.before).if1.left) c.before.before.before.before.before.before.before.before.before.before.before.begin.ensures c.before.slot_at.ensures (c.slot-at2.ensures ∙ (part-of-from-begin c.before.before.before.before.before.before.before.before.before.before.before).part_of.ensures.slots_are)
 
 enum-known-judged : tie.Need-enum-known-judged
 enum-known-judged c = search rules
@@ -124,7 +124,7 @@ same-length-3 : tie.Need-same-length-3
 same-length-3 c = (relocate-from-known-told c).relocate.kept.1.1.1.1.1.1.1.1.1.0 ∙ (begin-from-known-told c).begin.kept.1.1.1.1.1.1.0
 
 returns-2 : tie.Need-returns-2
-returns-2 c = whole.begun-refused (start-from-known-told c).pre (sym (has-room-from-known-told c).has_room.ensures ∙ not-false _ (else1-from-known-told c).if1.left) (begin-from-known-told c).begin.ensures (root-starts (relocate-from-known-told c)) (relocate-from-known-told c).relocate.ensures _ (ap refusal_in c.before.judged.given.1)
+returns-2 c = whole.begun_refused (start-from-known-told c).pre (sym (has-room-from-known-told c).has_room.ensures ∙ not-false _ (else1-from-known-told c).if1.left) (begin-from-known-told c).begin.ensures (root-starts (relocate-from-known-told c)) (relocate-from-known-told c).relocate.ensures _ (ap refusal_in c.before.judged.given.1)
 
 enum_told : tie.Need-enum-told
 enum_told c = search rules
@@ -139,7 +139,7 @@ same-length-6 : tie.Need-same-length-6
 same-length-6 c = (relocate-from-enum-told c).relocate.kept.1.1.1.1.1.1.1.1.1.0 ∙ (begin-from-enum-told c).begin.kept.1.1.1.1.1.1.0
 
 returns-3 : tie.Need-returns-3
-returns-3 c = whole.begun-done (start-from-enum-told c).pre (sym (has-room-from-enum-told c).has_room.ensures ∙ not-false _ (else1-from-enum-told c).if1.left) (begin-from-enum-told c).begin.ensures (root-starts (relocate-from-enum-told c)) (relocate-from-enum-told c).relocate.ensures (ap refusal_in c.enum_told.given.1) (λ k. ((slice-known7-from-enum-told c).slice-known7.given k).fits)
+returns-3 c = whole.begun_done (start-from-enum-told c).pre (sym (has-room-from-enum-told c).has_room.ensures ∙ not-false _ (else1-from-enum-told c).if1.left) (begin-from-enum-told c).begin.ensures (root-starts (relocate-from-enum-told c)) (relocate-from-enum-told c).relocate.ensures (ap refusal_in c.enum_told.given.1) (λ k. ((slice-known7-from-enum-told c).slice-known7.given k).fits)
 
 pub link-checked-spec : {M : Type 1} → statement M
 link-checked-spec =

@@ -31,7 +31,7 @@ link-starts-from-told c = c.before.before.before.before.before.before.before.bef
 abbrev tables : tie.Start → Offered
 tables s =
     let a = s.args in
-    link_offer a.code.now a.symbols.now a.functions.now a.relocations.now a.instructions.now a.func-info.now a.line-info.now
+    link_offer a.code.now a.symbols.now a.functions.now a.relocations.now a.instructions.now a.func_info.now a.line_info.now
 
 abbrev outputs : tie.Start → Buffers
 outputs s = buffers s.args.image.now s.args.image-func-info.now s.args.image-line-info.now
@@ -107,7 +107,7 @@ returns-2 : tie.Need-returns-2
 returns-2 c =
     let l = c.before.before.before.before.before.before.before.before in
     let s = start-from-link-starts l in
-    listing.list-refused (tables s) s.args.root (outputs s) (length s.args.pieces.now) (long (wipe5-from-link-starts l)) l.link-starts.ensures
+    listing.list_refused (tables s) s.args.root (outputs s) (length s.args.pieces.now) (long (wipe5-from-link-starts l)) l.link-starts.ensures
     (wipe5-from-link-starts l).wipe5.ensures (answer_refused c.enum_told.given.1)
 
 put-list-requires : tie.Need-put-list-requires

@@ -213,7 +213,7 @@ link-checked-from-enum-told2 c = c.before.before.before.before.before.before.bef
 abbrev tables : tie.Start → Offered
 tables s =
     let a = s.args in
-    link_offer a.code.now a.symbols.now a.functions.now a.relocations.now a.instructions.now a.func-info.now a.line-info.now
+    link_offer a.code.now a.symbols.now a.functions.now a.relocations.now a.instructions.now a.func_info.now a.line_info.now
 
 abbrev outputs : tie.Start → Buffers
 outputs s = buffers s.args.image.now s.args.image-func-info.now s.args.image-line-info.now
@@ -243,13 +243,13 @@ same-length-3 : tie.Need-same-length-3
 same-length-3 c = search rules
 
 returns : tie.Need-returns
-returns c = whole.entry-refused (tables (start-from-known-told c)) (start-from-known-told c).args.root (outputs (start-from-known-told c)) (wipe-from-known-told c).wipe.ensures (wipe2-from-known-told c).wipe2.ensures (wipe3-from-known-told c).wipe3.ensures _ (sym (ap refusal_in c.before.checked.given.1) ∙ (check-link-from-known-told c).check-link.ensures)
+returns c = whole.entry_refused (tables (start-from-known-told c)) (start-from-known-told c).args.root (outputs (start-from-known-told c)) (wipe-from-known-told c).wipe.ensures (wipe2-from-known-told c).wipe2.ensures (wipe3-from-known-told c).wipe3.ensures _ (sym (ap refusal_in c.before.checked.given.1) ∙ (check-link-from-known-told c).check-link.ensures)
 
 enum_told : tie.Need-enum-told
 enum_told c = search rules
 
 link-checked-requires : tie.Need-link-checked-requires
-link-checked-requires c κs = whole.entry-starts (tables (start-from-enum-told c.before.before.before)) (start-from-enum-told c.before.before.before).args.root (outputs (start-from-enum-told c.before.before.before)) (wipe-from-enum-told c.before.before.before).wipe.ensures (wipe2-from-enum-told c.before.before.before).wipe2.ensures (wipe3-from-enum-told c.before.before.before).wipe3.ensures (sym c.before.before.before.before.before.check-link.ensures ∙ ap refusal_in c.before.before.before.enum_told.given.1)
+link-checked-requires c κs = whole.entry_starts (tables (start-from-enum-told c.before.before.before)) (start-from-enum-told c.before.before.before).args.root (outputs (start-from-enum-told c.before.before.before)) (wipe-from-enum-told c.before.before.before).wipe.ensures (wipe2-from-enum-told c.before.before.before).wipe2.ensures (wipe3-from-enum-told c.before.before.before).wipe3.ensures (sym c.before.before.before.before.before.check-link.ensures ∙ ap refusal_in c.before.before.before.enum_told.given.1)
 
 enum-told-2 : tie.Need-enum-told-2
 enum-told-2 c = search rules
@@ -267,19 +267,19 @@ wipe-requires-6 : tie.Need-wipe-requires-6
 wipe-requires-6 c κs = search rules
 
 same-length-4 : tie.Need-same-length-4
-same-length-4 c = whole.wiped-length (tables (start-from-wipe6 c.before.before)) (start-from-wipe6 c.before.before).args.root (outputs (start-from-wipe6 c.before.before)) (wipe-from-wipe6 c.before.before).wipe.ensures (wipe2-from-wipe6 c.before.before).wipe2.ensures (wipe3-from-wipe6 c.before.before).wipe3.ensures (sym (check-link-from-wipe6 c.before.before).check-link.ensures ∙ ap refusal_in (enum-told-from-wipe6 c.before.before).enum_told.given.1) (link-checked-from-wipe6 c.before.before).link-checked.result (link-checked-from-wipe6 c.before.before).link-checked.ensures (wipe4-from-wipe6 c.before.before).wipe4.ensures
+same-length-4 c = whole.wiped_length (tables (start-from-wipe6 c.before.before)) (start-from-wipe6 c.before.before).args.root (outputs (start-from-wipe6 c.before.before)) (wipe-from-wipe6 c.before.before).wipe.ensures (wipe2-from-wipe6 c.before.before).wipe2.ensures (wipe3-from-wipe6 c.before.before).wipe3.ensures (sym (check-link-from-wipe6 c.before.before).check-link.ensures ∙ ap refusal_in (enum-told-from-wipe6 c.before.before).enum_told.given.1) (link-checked-from-wipe6 c.before.before).link_checked.result (link-checked-from-wipe6 c.before.before).link_checked.ensures (wipe4-from-wipe6 c.before.before).wipe4.ensures
 
 same-length-5 : tie.Need-same-length-5
-same-length-5 c = whole.wiped-length-2 (tables (start-from-wipe6 c.before.before)) (start-from-wipe6 c.before.before).args.root (outputs (start-from-wipe6 c.before.before)) (wipe-from-wipe6 c.before.before).wipe.ensures (wipe2-from-wipe6 c.before.before).wipe2.ensures (wipe3-from-wipe6 c.before.before).wipe3.ensures (sym (check-link-from-wipe6 c.before.before).check-link.ensures ∙ ap refusal_in (enum-told-from-wipe6 c.before.before).enum_told.given.1) (link-checked-from-wipe6 c.before.before).link-checked.result (link-checked-from-wipe6 c.before.before).link-checked.ensures (wipe5-from-wipe6 c.before.before).wipe5.ensures
+same-length-5 c = whole.wiped_length_2 (tables (start-from-wipe6 c.before.before)) (start-from-wipe6 c.before.before).args.root (outputs (start-from-wipe6 c.before.before)) (wipe-from-wipe6 c.before.before).wipe.ensures (wipe2-from-wipe6 c.before.before).wipe2.ensures (wipe3-from-wipe6 c.before.before).wipe3.ensures (sym (check-link-from-wipe6 c.before.before).check-link.ensures ∙ ap refusal_in (enum-told-from-wipe6 c.before.before).enum_told.given.1) (link-checked-from-wipe6 c.before.before).link_checked.result (link-checked-from-wipe6 c.before.before).link_checked.ensures (wipe5-from-wipe6 c.before.before).wipe5.ensures
 
 same-length-6 : tie.Need-same-length-6
 same-length-6 c = search rules
 
 returns-2 : tie.Need-returns-2
-returns-2 c = whole.entry-wiped (tables (start-from-wipe6 c.before.before)) (start-from-wipe6 c.before.before).args.root (outputs (start-from-wipe6 c.before.before)) (wipe-from-wipe6 c.before.before).wipe.ensures (wipe2-from-wipe6 c.before.before).wipe2.ensures (wipe3-from-wipe6 c.before.before).wipe3.ensures (sym (check-link-from-wipe6 c.before.before).check-link.ensures ∙ ap refusal_in (enum-told-from-wipe6 c.before.before).enum_told.given.1) (link-checked-from-wipe6 c.before.before).link-checked.result (link-checked-from-wipe6 c.before.before).link-checked.ensures (whole.answer-refused (enum-told3-from-wipe6 c.before.before).enum-told3.given.1) (wipe4-from-wipe6 c.before.before).wipe4.ensures (wipe5-from-wipe6 c.before.before).wipe5.ensures c.before.before.wipe6.ensures
+returns-2 c = whole.entry_wiped (tables (start-from-wipe6 c.before.before)) (start-from-wipe6 c.before.before).args.root (outputs (start-from-wipe6 c.before.before)) (wipe-from-wipe6 c.before.before).wipe.ensures (wipe2-from-wipe6 c.before.before).wipe2.ensures (wipe3-from-wipe6 c.before.before).wipe3.ensures (sym (check-link-from-wipe6 c.before.before).check-link.ensures ∙ ap refusal_in (enum-told-from-wipe6 c.before.before).enum_told.given.1) (link-checked-from-wipe6 c.before.before).link_checked.result (link-checked-from-wipe6 c.before.before).link_checked.ensures (whole.answer_refused (enum-told3-from-wipe6 c.before.before).enum-told3.given.1) (wipe4-from-wipe6 c.before.before).wipe4.ensures (wipe5-from-wipe6 c.before.before).wipe5.ensures c.before.before.wipe6.ensures
 
 same-length-7 : tie.Need-same-length-7
-same-length-7 c = (link-checked-from-enum-told2 c).link-checked.kept.1.1.1.1.1.1.1.0 ∙ (wipe-from-enum-told2 c).wipe.kept.0
+same-length-7 c = (link-checked-from-enum-told2 c).link_checked.kept.1.1.1.1.1.1.1.0 ∙ (wipe-from-enum-told2 c).wipe.kept.0
 
 same-length-8 : tie.Need-same-length-8
 same-length-8 c = search rules
@@ -288,7 +288,7 @@ same-length-9 : tie.Need-same-length-9
 same-length-9 c = search rules
 
 returns-3 : tie.Need-returns-3
-returns-3 c = whole.entry_done (tables (start-from-enum-told2 c)) (start-from-enum-told2 c).args.root (outputs (start-from-enum-told2 c)) (wipe-from-enum-told2 c).wipe.ensures (wipe2-from-enum-told2 c).wipe2.ensures (wipe3-from-enum-told2 c).wipe3.ensures (sym (check-link-from-enum-told2 c).check-link.ensures ∙ ap refusal_in (enum-told-from-enum-told2 c).enum_told.given.1) (link-checked-from-enum-told2 c).link-checked.result (link-checked-from-enum-told2 c).link-checked.ensures (ap (λ x. (reply_of x).number) c.enum-told2.given.1)
+returns-3 c = whole.entry_done (tables (start-from-enum-told2 c)) (start-from-enum-told2 c).args.root (outputs (start-from-enum-told2 c)) (wipe-from-enum-told2 c).wipe.ensures (wipe2-from-enum-told2 c).wipe2.ensures (wipe3-from-enum-told2 c).wipe3.ensures (sym (check-link-from-enum-told2 c).check-link.ensures ∙ ap refusal_in (enum-told-from-enum-told2 c).enum_told.given.1) (link-checked-from-enum-told2 c).link_checked.result (link-checked-from-enum-told2 c).link_checked.ensures (ap (λ x. (reply_of x).number) c.enum-told2.given.1)
 
 pub link-starts-spec : {M : Type 1} → statement M
 link-starts-spec =

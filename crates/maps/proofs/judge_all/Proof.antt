@@ -69,7 +69,7 @@ add-first : tie.Need-overflow-add-first invariant-loop decreases-loop
 add-first c =
     let n = judged c.before in
     let l = loop n in
-    record { fits = omega (arith, l.loop.inv.first-is, c.before.function-slots.ensures, slots_low (start l).pre l.loop.row (omega (arith, n.before.before.loop-test.taken))) }
+    record { fits = omega (arith, l.loop.inv.first_is, c.before.function-slots.ensures, slots_low (start l).pre l.loop.row (omega (arith, n.before.before.loop-test.taken))) }
 
 add_row : tie.Need-overflow-add-row invariant-loop decreases-loop
 add_row c =

@@ -34,7 +34,7 @@ loops t = t.before.before
 tested : (t : tie.After-is-within invariant-loop decreases-loop) (b : Bool) → t.is_Within.result ≡ b
     → is_within (start (loops t)).args.relocations.now (function_section (start (loops t)).args.functions.now (start (loops t)).args.row)
     (end_of (start (loops t)).args.functions.now (start (loops t)).args.row) (loops t).loop.k ≡ b
-tested t b e = test_is (start (loops t)).args.relocations.now (loops t).loop.k (loops t).before.before.before.function-section.ensures (loops t).before.before.end-of.ensures t.is_Within.ensures e
+tested t b e = test_is (start (loops t)).args.relocations.now (loops t).loop.k (loops t).before.before.before.function-section.ensures (loops t).before.before.end_of.ensures t.is_Within.ensures e
 
 -- it is of the function, and is judged
 abbrev of-it : tie.After-refusal-of invariant-loop decreases-loop → tie.Else1 invariant-loop decreases-loop

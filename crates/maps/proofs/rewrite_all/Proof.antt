@@ -57,7 +57,7 @@ add-first : tie.Need-overflow-add-first invariant-loop decreases-loop
 add-first c =
     let t = inside c.before.before.before.before in
     let l = t.before in
-    record { fits = omega (arith, l.loop.inv.first-is, c.before.function-slots.ensures, slots_low (start l).pre l.loop.row (omega (arith, t.loop-test.taken))) }
+    record { fits = omega (arith, l.loop.inv.first_is, c.before.function-slots.ensures, slots_low (start l).pre l.loop.row (omega (arith, t.loop-test.taken))) }
 
 add_row : tie.Need-overflow-add-row invariant-loop decreases-loop
 add_row c =

@@ -58,7 +58,7 @@ returns c =
     ∙ ap (λ (z : ℤ). or_missing (function_with f (function_section f s.args.row) (pos (function_offset f s.args.row + 8 * s.args.slot.0) +ℤ slots_on z)))
     (to_z-of_z w32 _ (record { sfits = c.before.immediate.type-inv }) ∙ c.before.immediate.ensures)
     ∙ sym (own_call_lem (tables s) s.args.row s.args.slot.0 (insn s)
-    (sym c.before.before.before.insn-is-call.ensures ∙ c.before.before.if1.true))
+    (sym c.before.before.before.insn_is_call.ensures ∙ c.before.before.if1.true))
     ∙ ap (named s) (sym n.enum_told.given.1)
 
 returns-2 : tie.Need-returns-2
@@ -66,7 +66,7 @@ returns-2 c =
     let n = c.before.before in
     let s = start n in
     sym (not_call (tables s) s.args.row s.args.slot.0 (insn s)
-    (sym c.before.insn-is-call.ensures ∙ c.if1.false))
+    (sym c.before.insn_is_call.ensures ∙ c.if1.false))
     ∙ ap (named s) (sym n.enum_told.given.1)
 
 enum-known-rel : tie.Need-enum-known-rel
@@ -83,7 +83,7 @@ by-row-requires c κs =
       symbols_sound = s.pre.tables.symbols;
       functions_sound = s.pre.tables.functions;
       relocations_sound = s.pre.tables.relocations;
-      inside = subst (λ (f : Found). Within f (whole_rows Relocations s.args.relocations.now)) c.before.before.rel.given.1 s.pre.rel-inside;
+      inside = subst (λ (f : Found). Within f (whole_rows Relocations s.args.relocations.now)) c.before.before.rel.given.1 s.pre.rel_inside;
     }
 
 returns-3 : tie.Need-returns-3

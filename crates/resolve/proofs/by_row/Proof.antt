@@ -46,7 +46,7 @@ row c =
 inside : (c : tie.After-known-told) → row_size Symbols * c.before.found.given.0.0 + row_size Symbols ≤ length (start c.before.before.before).args.symbols.now
 inside c =
     let s = start c.before.before.before in
-    omega (arith, (row c).inside, whole Symbols s.args.symbols.now s.pre.symbols-sound)
+    omega (arith, (row c).inside, whole Symbols s.args.symbols.now s.pre.symbols_sound)
 
 relocation-symbol-requires : tie.Need-relocation-symbol-requires
 relocation-symbol-requires c κs = search rules
@@ -77,9 +77,9 @@ by-symbol-requires c κs =
     let k = c.before.before.before.before in
     let s = start k.before.before.before in
     record {
-      code_sound = s.pre.code-sound;
-      functions_sound = s.pre.functions-sound;
-      low = omega (arith, c.before.symbol-address.ensures, (good_symbol s.args.symbols.now s.pre.symbols-sound k.before.found.given.0.0 (row k).inside).address);
+      code_sound = s.pre.code_sound;
+      functions_sound = s.pre.functions_sound;
+      low = omega (arith, c.before.symbol-address.ensures, (good_symbol s.args.symbols.now s.pre.symbols_sound k.before.found.given.0.0 (row k).inside).address);
     }
 
 returns : tie.Need-returns
@@ -95,7 +95,7 @@ returns-2 c =
       c.before.before.symbol-address.ensures,
       c.before.relocation-size.ensures,
       to_z-of_z w32 s.args.imm s.fits.imm,
-    ) at c.by-symbol.ensures
+    ) at c.by_symbol.ensures
     ∙ as-found k.before.before.before (sym k.before.found.given.1)
 
 pub by-row-spec : {M : Type 1} → statement M

@@ -56,7 +56,7 @@ returns-4 c =
     let e = t.before in
     let a = (somewhere e).args in
     sym (no_code a.code.now a.functions.now a.kind a.home a.address.0 a.size a.imm e.if1.false t.if3.false
-    (sym k.is-code.ensures ∙ not-true _ c.if4.true))
+    (sym k.is_code.ensures ∙ not-true _ c.if4.true))
 
 returns-5 : tie.Need-returns-5
 returns-5 c =
@@ -64,7 +64,7 @@ returns-5 c =
     let e = k.before.before in
     let a = (somewhere e).args in
     sym (other_code a.code.now a.functions.now a.kind a.home a.address.0 a.size a.imm e.if1.false c.if5.true
-    (sym k.is-code.ensures ∙ not-false _ c.before.if4.false))
+    (sym k.is_code.ensures ∙ not-false _ c.before.if4.false))
 
 by-section-requires : tie.Need-by-section-requires
 by-section-requires c κs = search rules
@@ -77,9 +77,9 @@ returns-6 c =
     let e = t.before in
     let s = somewhere e in
     let a = s.args in
-    c.by-section.ensures ∙ ap (by_code (targets [] a.functions.now) section (some a.home) a.address.0 a.size) (to_z-of_z w32 a.imm s.fits.imm)
+    c.by_section.ensures ∙ ap (by_code (targets [] a.functions.now) section (some a.home) a.address.0 a.size) (to_z-of_z w32 a.imm s.fits.imm)
     ∙ sym (section_code a.code.now a.functions.now a.kind a.home a.address.0 a.size a.imm e.if1.false t.if3.false o.if5.false
-    (sym k.is-code.ensures ∙ not-false _ o.before.if4.false))
+    (sym k.is_code.ensures ∙ not-false _ o.before.if4.false))
 
 pub by-symbol-spec : {M : Type 1} → statement M
 by-symbol-spec =

@@ -32,7 +32,7 @@ end_is e = e.after2.ensures ∙ ap (λ (n : ℕ). (start e).args.first.0 + n) e.
 after-requires : tie.Need-after-requires
 after-requires c κs =
     let s = begun c in
-    omega (arith, first_low s.pre, slots_low s.pre, s.pre.slot-inside)
+    omega (arith, first_low s.pre, slots_low s.pre, s.pre.slot_inside)
 
 function-slots-requires : tie.Need-function-slots-requires
 function-slots-requires c κs = search rules
@@ -48,20 +48,20 @@ by-relocation-requires c κs =
     record {
       tables = s.pre.tables;
       row_inside = s.pre.row_inside;
-      slot_inside = omega (arith, end_inside s.pre, s.pre.slot-inside, at_is c);
+      slot_inside = omega (arith, end_inside s.pre, s.pre.slot_inside, at_is c);
       rel_inside = rel_within s.pre;
     }
 
 insn-is-call-requires : tie.Need-insn-is-call-requires
 insn-is-call-requires c κs =
     let s = start c.before in
-    omega (arith, end_inside s.pre, s.pre.slot-inside, at_is c.before)
+    omega (arith, end_inside s.pre, s.pre.slot_inside, at_is c.before)
 
 is-wide-load-requires : tie.Need-is-wide-load-requires
 is-wide-load-requires c κs =
     let n = c.before.before in
     let s = start n in
-    (omega (arith, s.pre.slot-inside, at_is n, end_is n), omega (arith, end_inside s.pre, end_is n))
+    (omega (arith, s.pre.slot_inside, at_is n, end_is n), omega (arith, end_inside s.pre, end_is n))
 
 cast-decide : tie.Need-overflow-cast-decide
 cast-decide c = record { fits = omega (arith, row_low (start c.before.before.before).requires) }
@@ -77,7 +77,7 @@ returns c =
     let here = a.first.0 + a.slot.0 in
     subst (Means a.row a.slot.0 c.decide.result)
     (ap (λ (b : Bool). decide b c.before.is-wide-load.result (named_of c.before.before.before.by-relocation.result))
-    (c.before.before.insn-is-call.ensures ∙ ap (λ (k : ℕ). is_call (slot_in little a.instructions.now k)) (at_is n))
+    (c.before.before.insn_is_call.ensures ∙ ap (λ (k : ℕ). is_call (slot_in little a.instructions.now k)) (at_is n))
     ∙ ap (λ (b : Bool). decide (is_call (slot_in little a.instructions.now here)) b (named_of c.before.before.before.by-relocation.result))
     (c.before.is-wide-load.ensures ∙ ap (λ (k : ℕ). wide_load_in a.instructions.now k n.after2.result.0) (at_is n) ∙ ap (wide_load_in a.instructions.now here) (end_is n))
     ∙ ap (decide (is_call (slot_in little a.instructions.now here)) (wide_load_in a.instructions.now here (a.first.0 + function_slots a.functions.now a.row)))

@@ -20,8 +20,8 @@ start n = n.before.before.before
 found-is : (n : tie.After-slot-in) → n.slot-in.result ≡ slot_found (slots_in (start n).args.functions.now (start n).args.row) (start n).args.at
 found-is n =
     n.slot-in.ensures
-    ∙ ap (slot_found n.before.slots-of.result) (to_z-of_z w64 _ (start n).ranges.at)
-    ∙ ap (λ (k : ℕ). slot_found k (start n).args.at) n.before.slots-of.ensures
+    ∙ ap (slot_found n.before.slots_of.result) (to_z-of_z w64 _ (start n).ranges.at)
+    ∙ ap (λ (k : ℕ). slot_found k (start n).args.at) n.before.slots_of.ensures
 
 slots-of-requires : tie.Need-slots-of-requires
 slots-of-requires c κs = search rules

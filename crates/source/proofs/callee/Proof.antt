@@ -65,8 +65,8 @@ resolve-requires c κs =
     record {
       tables = s.pre.tables;
       row_inside = s.pre.row_inside;
-      slot_inside = s.pre.slot-inside;
-      first_is = s.pre.first-is;
+      slot_inside = s.pre.slot_inside;
+      first_is = s.pre.first_is;
       rel_is =
           c.find-relocation.ensures
           ∙ ap (λ (h : ℕ). found_of (relocation_with s.args.relocations.now h p.place.result.0)) c.before.function-section.ensures

@@ -37,9 +37,9 @@ add-first c =
             l.loop.invariant.1,
             n.function-slots.ensures,
             few_rows Functions t s.requires.0,
-            (good_function t s.requires.0 l.loop.k (omega (arith, s.requires.1, i.loop-test.true))).slots-high,
+            (good_function t s.requires.0 l.loop.k (omega (arith, s.requires.1, i.loop-test.true))).slots_high,
             summed_bound (function_slots t) most_function_slots l.loop.k
-                (λ j h. (good_function t s.requires.0 j (omega (arith, s.requires.1, i.loop-test.true))).slots-high),
+                (λ j h. (good_function t s.requires.0 j (omega (arith, s.requires.1, i.loop-test.true))).slots_high),
           );
     }
 

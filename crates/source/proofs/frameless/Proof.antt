@@ -15,12 +15,12 @@ slots-of-requires c κs = search rules
 returns : tie.Need-returns
 returns c =
     let a = c.before.before.before.args in
-    sym (ap (λ (b : Bool). cond b Left NoFrame) (eq-eqb (slots_in a.functions.now a.row) 0 (sym c.before.slots-of.ensures ∙ c.if1.true)))
+    sym (ap (λ (b : Bool). cond b Left NoFrame) (eq-eqb (slots_in a.functions.now a.row) 0 (sym c.before.slots_of.ensures ∙ c.if1.true)))
 
 returns-2 : tie.Need-returns-2
 returns-2 c =
     let a = c.before.before.before.args in
-    sym (ap (λ (b : Bool). cond b Left NoFrame) (ne_eqb (slots_in a.functions.now a.row) 0 (λ e. c.if1.false (c.before.slots-of.ensures ∙ e))))
+    sym (ap (λ (b : Bool). cond b Left NoFrame) (ne_eqb (slots_in a.functions.now a.row) 0 (λ e. c.if1.false (c.before.slots_of.ensures ∙ e))))
 
 pub frameless-spec : {M : Type 1} → statement M
 frameless-spec = tie.close (tie.spec slots-of-requires returns returns-2)

@@ -51,12 +51,12 @@ seen n m e =
 after-requires : tie.Need-after-requires
 after-requires c κs =
     let s = c.before.before.before.before.before in
-    omega (arith, first_low (resolves s.requires.1), slots_low (resolves s.requires.1), s.requires.1.slot-inside)
+    omega (arith, first_low (resolves s.requires.1), slots_low (resolves s.requires.1), s.requires.1.slot_inside)
 
 leads-at-requires : tie.Need-leads-at-requires
 leads-at-requires c κs =
     let s = c.before.before.before.before.before.before in
-    (s.requires.0.table, omega (arith, end_inside (resolves s.requires.1), s.requires.1.slot-inside, c.after.ensures))
+    (s.requires.0.table, omega (arith, end_inside (resolves s.requires.1), s.requires.1.slot_inside, c.after.ensures))
 
 enum_told : tie.Need-enum-told
 enum_told c = search rules

@@ -26,8 +26,8 @@ tables n = offered_code (start n).args.code (start n).args.symbols (start n).arg
 found-is : (n : tie.After-slot-in) → n.slot-in.result ≡ slot_found (slots_in (start n).args.functions.now (start n).args.row) (start n).args.at
 found-is n =
     n.slot-in.ensures
-    ∙ ap (slot_found n.before.slots-of.result) (to_z-of_z w64 _ (start n).ranges.at)
-    ∙ ap (λ (k : ℕ). slot_found k (start n).args.at) n.before.slots-of.ensures
+    ∙ ap (slot_found n.before.slots_of.result) (to_z-of_z w64 _ (start n).ranges.at)
+    ∙ ap (λ (k : ℕ). slot_found k (start n).args.at) n.before.slots_of.ensures
 
 lies_at : (c : tie.After-found) → Lies (slots_in (start c.before.before).args.functions.now (start c.before.before).args.row) (start c.before.before).args.at c.found.given.0.0
 lies_at c = lies _ _ _ (sym c.found.given.1 ∙ found-is c.before.before)
@@ -62,7 +62,7 @@ cast-slot-at : tie.Need-overflow-cast-slot-at
 cast-slot-at c =
     let f = c.before.before in
     let s = start f.before.before in
-    record { fits = omega (arith, (in_row f).slot-inside, (good_function s.args.functions.now s.pre.tables.functions s.args.row (in_row f).row_inside).slots-high) }
+    record { fits = omega (arith, (in_row f).slot_inside, (good_function s.args.functions.now s.pre.tables.functions s.args.row (in_row f).row_inside).slots_high) }
 
 slot-at-requires : tie.Need-slot-at-requires
 slot-at-requires c κs = search rules
@@ -75,8 +75,8 @@ move-at-requires c κs =
       record {
         tables = s.pre.tables;
         row_inside = (in_row f).row_inside;
-        slot_inside = omega (arith, (in_row f).slot-inside, c.slot_at.ensures);
-        first_is = c.before.first-slot.ensures;
+        slot_inside = omega (arith, (in_row f).slot_inside, c.slot_at.ensures);
+        first_is = c.before.first_slot.ensures;
       },
     )
 

@@ -71,11 +71,11 @@ stood-at n =
 
 rows-after : (n : tie.After-source-step invariant-loop decreases-loop) → length (after n).rows ≡ length (start n).args.frame-rows.now
 rows-after n =
-    ap (λ (l : Lent). length l.rows) n.source-step.ensures.frames-are ∙ rows_kept (look (start n)) (before n) (stood-at n) ∙ (at-loop n).loop.invariant.1.0
+    ap (λ (l : Lent). length l.rows) n.source-step.ensures.frames_are ∙ rows_kept (look (start n)) (before n) (stood-at n) ∙ (at-loop n).loop.invariant.1.0
 
 slots-after : (n : tie.After-source-step invariant-loop decreases-loop) → length (after n).slots ≡ length (start n).args.frame-slots.now
 slots-after n =
-    ap (λ (l : Lent). length l.slots) n.source-step.ensures.frames-are ∙ slots_kept (look (start n)) (before n) (stood-at n) ∙ (at-loop n).loop.invariant.1.1.0
+    ap (λ (l : Lent). length l.slots) n.source-step.ensures.frames_are ∙ slots_kept (look (start n)) (before n) (stood-at n) ∙ (at-loop n).loop.invariant.1.1.0
 
 abbrev RanTo : tie.After-source-step invariant-loop decreases-loop → SourceStand → Type 0
 RanTo n q =
@@ -112,7 +112,7 @@ returns : tie.Need-returns invariant-loop decreases-loop
 returns c =
     let s = begun c.before in
     let a = s.args in
-    let e : slots_in a.functions.now a.root ≡ 0 = sym c.before.slots-of.ensures ∙ c.if1.true in
+    let e : slots_in a.functions.now a.root ≡ 0 = sym c.before.slots_of.ensures ∙ c.if1.true in
     leaves_at_once source_frames (look s) (place s.args.root (pos 0)) s.args.answers.now (lent₀ s)
     (source_outside (tables s) a.root (pos 0) (rw e)) a.limit
 
@@ -120,7 +120,7 @@ loop-holds : tie.Need-loop-init invariant-loop decreases-loop
 loop-holds c =
     let s = begun c.before in
     let a = s.args in
-    let m = first_seen (tables s) a.root (omega (arith, c.before.slots-of.ensures, c.if1.false)) in
+    let m = first_seen (tables s) a.root (omega (arith, c.before.slots_of.ensures, c.if1.false)) in
     (begins source_frames (look s) (place s.args.root (pos 0)) s.args.answers.now (lent₀ s) m.move m.is, (refl, (refl, omega arith)))
 
 source-step-requires : tie.Need-source-step-requires invariant-loop decreases-loop

@@ -55,7 +55,7 @@ room_after : (n : tie.After-image-step invariant-loop decreases-loop) → length
 room_after n =
     let s = start n in
     let r = (at-loop n).loop.invariant.0 in
-    after_room image_frames (look s) (pos 0) s.args.answers.now s.args.frames.now image_laws r n.image-step.ensures ∙ r.room-kept
+    after_room image_frames (look s) (pos 0) s.args.answers.now s.args.frames.now image_laws r n.image-step.ensures ∙ r.room_kept
 
 abbrev RanTo : tie.After-image-step invariant-loop decreases-loop → Stand → Type 0
 RanTo n q =
@@ -135,7 +135,7 @@ loop-again c =
     )
 
 same-length-2 : tie.Need-same-length-2 invariant-loop decreases-loop
-same-length-2 c = c.before.loop.invariant.0.room-kept
+same-length-2 c = c.before.loop.invariant.0.room_kept
 
 returns-3 : tie.Need-returns-3 invariant-loop decreases-loop
 returns-3 c =

@@ -134,7 +134,7 @@ returns-6 c =
     let n = t.before.before.before in
     went (sum (record { sfits = c.ahead7.type-inv }) c.ahead7.ensures)
     ∙ sym (calls_not (insn n) (start n).args.slot.0 (kind-is n CallByte t.before.enum-told6.given.1)
-    (sym t.insn-is-call.ensures ∙ not-true t.insn-is-call.result c.before.if1.true))
+    (sym t.insn_is_call.ensures ∙ not-true t.insn_is_call.result c.before.if1.true))
 
 immediate-requires-2 : tie.Need-immediate-requires-2
 immediate-requires-2 c κs = search rules
@@ -154,7 +154,7 @@ returns-7 c =
     (sum_by (start n).args.slot.0 (record { sfits = c.before.ahead8.type-inv }) c.before.ahead8.ensures (record { sfits = c.before.before.immediate2.type-inv }) c.before.before.immediate2.ensures)
     (sum (record { sfits = c.ahead9.type-inv }) c.ahead9.ensures)
     ∙ sym (calls (insn n) (start n).args.slot.0 (kind-is n CallByte t.before.enum-told6.given.1)
-    (sym t.insn-is-call.ensures ∙ not-false t.insn-is-call.result e.if1.false))
+    (sym t.insn_is_call.ensures ∙ not-false t.insn_is_call.result e.if1.false))
 
 enum-told-7 : tie.Need-enum-told-7
 enum-told-7 c = search rules

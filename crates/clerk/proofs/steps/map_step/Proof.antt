@@ -33,7 +33,7 @@ returns c =
     c.before.before.before.before.before.before.table3.ensures
     c.before.before.before.before.before.table4.ensures
     c.before.before.before.before.table5.ensures
-    c.before.before.relocate-maps.ensures
+    c.before.before.relocate_maps.ensures
 
 pub map-step-spec : {M : Type 1} → statement M
 map-step-spec =

@@ -25,7 +25,7 @@ abbrev decreases-loop : tie.decreases-loop
 decreases-loop func_info first count shown at k start n j₀ j = count - j
 
 abbrev wrong : tie.Start invariant-loop decreases-loop → ℕ → Option Reply
-wrong s = let a = s.args in func_wrong a.func-info.now a.first a.shown.now a.at a.k a.start.0
+wrong s = let a = s.args in func_wrong a.func_info.now a.first a.shown.now a.at a.k a.start.0
 
 loop-holds : tie.Need-loop-init invariant-loop decreases-loop
 loop-holds c = record { most = omega arith; same = wrong_start (wrong c.before.before) c.before.before.args.count }
@@ -44,7 +44,7 @@ returns c =
     let a = c.before.before.before.before.before.before.args in
     let l = c.before.before.before.loop in
     ap some c.finding.ensures
-    ∙ sym (l.invariant.same ∙ wrong_here (wrong c.before.before.before.before.before.before) l.j a.count c.before.before.loop-test.true (func_missing a.func-info.now a.first a.shown.now a.at a.k a.start.0 l.j c.before.if1.true))
+    ∙ sym (l.invariant.same ∙ wrong_here (wrong c.before.before.before.before.before.before) l.j a.count c.before.before.loop-test.true (func_missing a.func_info.now a.first a.shown.now a.at a.k a.start.0 l.j c.before.if1.true))
 
 add-from : tie.Need-overflow-add-from invariant-loop decreases-loop
 add-from c = omega arith
@@ -67,7 +67,7 @@ returns-2 c =
     let l = c.before.before.before.before.before.loop in
     ap some c.finding2.ensures
     ∙ sym (l.invariant.same ∙ wrong_here (wrong c.before.before.before.before.before.before.before.before) l.j a.count c.before.before.before.before.loop-test.true
-    (func_differs a.func-info.now a.first a.shown.now a.at a.k a.start.0 l.j c.before.before.same-func.ensures c.before.before.before.if1.false (not-true _ c.before.if2.true)))
+    (func_differs a.func_info.now a.first a.shown.now a.at a.k a.start.0 l.j c.before.before.same-func.ensures c.before.before.before.if1.false (not-true _ c.before.if2.true)))
 
 add-j : tie.Need-overflow-add-j invariant-loop decreases-loop
 add-j c = omega arith
@@ -81,7 +81,7 @@ loop-again c =
     let l = c.before.before.before.before.loop in record {
       most = omega (arith, c.before.before.before.loop-test.true);
       same = l.invariant.same ∙ wrong_step (wrong c.before.before.before.before.before.before.before) l.j a.count c.before.before.before.loop-test.true
-          (func_same a.func-info.now a.first a.shown.now a.at a.k a.start.0 l.j c.before.same-func.ensures c.before.before.if1.false (not-false _ c.if2.false));
+          (func_same a.func_info.now a.first a.shown.now a.at a.k a.start.0 l.j c.before.same-func.ensures c.before.before.if1.false (not-false _ c.if2.false));
     }
 
 returns-3 : tie.Need-returns-3 invariant-loop decreases-loop

@@ -27,7 +27,7 @@ abbrev decreases-loop : tie.decreases-loop
 decreases-loop line_info first count shown at k start n origin j₀ j = count - j
 
 abbrev wrong : tie.Start invariant-loop decreases-loop → ℕ → Option Reply
-wrong s = let a = s.args in line_wrong a.line-info.now a.first a.shown.now a.at a.k a.start.0
+wrong s = let a = s.args in line_wrong a.line_info.now a.first a.shown.now a.at a.k a.start.0
 
 returns : tie.Need-returns invariant-loop decreases-loop
 returns c = sym (ap (first_wrong (wrong c.before.before.before) 0) c.if1.true)
@@ -52,7 +52,7 @@ returns-2 c =
     let a = c.before.before.before.before.before.before.before.before.args in
     let l = c.before.before.before.loop in
     ap some c.finding.ensures
-    ∙ sym (l.invariant.same ∙ wrong_here (wrong c.before.before.before.before.before.before.before.before) l.j a.count c.before.before.loop-test.true (line_missing a.line-info.now a.first a.shown.now a.at a.k a.start.0 l.j c.before.if2.true))
+    ∙ sym (l.invariant.same ∙ wrong_here (wrong c.before.before.before.before.before.before.before.before) l.j a.count c.before.before.loop-test.true (line_missing a.line_info.now a.first a.shown.now a.at a.k a.start.0 l.j c.before.if2.true))
 
 add-from : tie.Need-overflow-add-from invariant-loop decreases-loop
 add-from c = omega arith
@@ -70,7 +70,7 @@ same-line-requires c κs =
       omega (arith, c.before.before.before.before.before.before.before.requires.inside, c.before.loop-test.true),
       (
         omega (arith, c.if2.false),
-        subst (λ (n : ℕ). Movable a.k n a.start.0 (line_info_row little a.line-info.now (a.first + l.j))) (sym c.before.before.before.line-info-slot.ensures) (c.before.before.before.before.before.before.before.requires.movable l.j c.before.loop-test.true),
+        subst (λ (n : ℕ). Movable a.k n a.start.0 (line_info_row little a.line_info.now (a.first + l.j))) (sym c.before.before.before.line-info-slot.ensures) (c.before.before.before.before.before.before.before.requires.movable l.j c.before.loop-test.true),
       ),
     )
 
@@ -83,7 +83,7 @@ returns-3 c =
     let l = c.before.before.before.before.before.loop in
     ap some c.finding2.ensures
     ∙ sym (l.invariant.same ∙ wrong_here (wrong c.before.before.before.before.before.before.before.before.before.before) l.j a.count c.before.before.before.before.loop-test.true
-    (line_differs a.line-info.now a.first a.shown.now a.at a.k a.start.0 l.j c.before.before.before.before.before.before.line-info-slot.ensures c.before.before.same_line.ensures c.before.before.before.if2.false (not-true _ c.before.if3.true)))
+    (line_differs a.line_info.now a.first a.shown.now a.at a.k a.start.0 l.j c.before.before.before.before.before.before.line-info-slot.ensures c.before.before.same_line.ensures c.before.before.before.if2.false (not-true _ c.before.if3.true)))
 
 add-j : tie.Need-overflow-add-j invariant-loop decreases-loop
 add-j c = omega arith
@@ -97,7 +97,7 @@ loop-again c =
     let l = c.before.before.before.before.loop in record {
       most = omega (arith, c.before.before.before.loop-test.true);
       same = l.invariant.same ∙ wrong_step (wrong c.before.before.before.before.before.before.before.before.before) l.j a.count c.before.before.before.loop-test.true
-          (line_same a.line-info.now a.first a.shown.now a.at a.k a.start.0 l.j c.before.before.before.before.before.line-info-slot.ensures c.before.same_line.ensures c.before.before.if2.false (not-false _ c.if3.false));
+          (line_same a.line_info.now a.first a.shown.now a.at a.k a.start.0 l.j c.before.before.before.before.before.line-info-slot.ensures c.before.same_line.ensures c.before.before.if2.false (not-false _ c.if3.false));
     }
 
 returns-4 : tie.Need-returns-4 invariant-loop decreases-loop

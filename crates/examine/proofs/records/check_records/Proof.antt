@@ -15,13 +15,13 @@ use Rattle.examine.proofs.records.check_records.Statement.{statement}
 use Rattle.examine.proofs.records.check_records.Tie as tie
 
 abbrev funcs : tie.Start → ℕ → Option Reply
-funcs s n = let a = s.args in first_wrong (func_wrong a.func-info.now a.part.funcs a.image-func-info.now a.funcs a.k a.start.0) 0 n
+funcs s n = let a = s.args in first_wrong (func_wrong a.func_info.now a.part.funcs a.image-func-info.now a.funcs a.k a.start.0) 0 n
 
 abbrev strays : tie.Start → Option Reply
-strays s = let a = s.args in stray_of a.k a.row (stray_in a.functions.now a.line-info.now a.row)
+strays s = let a = s.args in stray_of a.k a.row (stray_in a.functions.now a.line_info.now a.row)
 
 abbrev lines : tie.Start → ℕ → Option Reply
-lines s n = let a = s.args in first_wrong (line_wrong a.line-info.now a.part.lines a.image-line-info.now a.lines a.k a.start.0) 0 n
+lines s n = let a = s.args in first_wrong (line_wrong a.line_info.now a.part.lines a.image-line-info.now a.lines a.k a.start.0) 0 n
 
 abbrev counted : tie.Start → ℕ
 counted s = function_func_info s.args.functions.now s.args.row
@@ -32,7 +32,7 @@ lined s = function_line_info s.args.functions.now s.args.row
 funcs_are : (c : tie.After-check-funcs) → refusal_in c.check-funcs.result ≡ funcs c.before.before.before.before.before.before.before (counted c.before.before.before.before.before.before.before)
 funcs_are c = c.check-funcs.ensures ∙ ap (funcs c.before.before.before.before.before.before.before) c.before.function-func-info.ensures
 
-whole : (s : tie.Start) (a b : Option Reply) → funcs s (counted s) ≡ a → strays s ≡ b → let x = s.args in records_wrong x.functions.now x.func-info.now x.line-info.now x.image-func-info.now x.image-line-info.now x.k x.row x.start.0 x.part x.funcs x.lines ≡ or_else a (or_else b (lines s (lined s)))
+whole : (s : tie.Start) (a b : Option Reply) → funcs s (counted s) ≡ a → strays s ≡ b → let x = s.args in records_wrong x.functions.now x.func_info.now x.line_info.now x.image-func-info.now x.image-line-info.now x.k x.row x.start.0 x.part x.funcs x.lines ≡ or_else a (or_else b (lines s (lined s)))
 unfolding records_wrong
 whole s a b e f = ap (λ (x : Option Reply). or_else x (or_else (strays s) (lines s (lined s)))) e ∙ ap (λ (x : Option Reply). or_else a (or_else x (lines s (lined s)))) f
 
@@ -43,7 +43,7 @@ check-funcs-requires : tie.Need-check-funcs-requires
 check-funcs-requires c κs =
     let p = c.before.before.before.before.before.before.requires in
     let n = c.function-func-info.ensures in
-    record { inside = omega (arith, p.funcs-inside, n); few = omega (arith, p.funcs-inside, p.few-funcs, n); low = p.funcs-low }
+    record { inside = omega (arith, p.funcs_inside, n); few = omega (arith, p.funcs_inside, p.few_funcs, n); low = p.funcs_low }
 
 enum-known-judged : tie.Need-enum-known-judged
 enum-known-judged c = search rules
@@ -59,9 +59,9 @@ enum_told c = search rules
 check-stray-requires : tie.Need-check-stray-requires
 check-stray-requires c κs =
     let p = c.before.before.before.before.before.before.before.before.before.requires in record {
-      lined = record { is_row = p.is_row; begins = p.begins.lines_are; inside = p.lines-inside };
-      few_rows = p.few-rows;
-      few = omega (arith, p.lines-inside, p.few-lines);
+      lined = record { is_row = p.is_row; begins = p.begins.lines_are; inside = p.lines_inside };
+      few_rows = p.few_rows;
+      few = omega (arith, p.lines_inside, p.few_lines);
     }
 
 enum-known-strays : tie.Need-enum-known-strays
@@ -84,10 +84,10 @@ check-lines-requires c κs =
     let p = s.requires in
     let n = c.function-line-info.ensures in
     let none_strays = sym c.before.before.before.check-stray.ensures ∙ ap refusal_in c.before.enum-told2.given.1 in record {
-      inside = omega (arith, p.lines-inside, n);
-      few = omega (arith, p.lines-inside, p.few-lines, n);
-      low = p.lines-low;
-      movable = λ j l. movable a.functions.now a.line-info.now a.row a.part.lines a.start.0 p.begins.lines_are p.ends a.k none_strays j (omega (arith, n));
+      inside = omega (arith, p.lines_inside, n);
+      few = omega (arith, p.lines_inside, p.few_lines, n);
+      low = p.lines_low;
+      movable = λ j l. movable a.functions.now a.line_info.now a.row a.part.lines a.start.0 p.begins.lines_are p.ends a.k none_strays j (omega (arith, n));
     }
 
 returns-3 : tie.Need-returns-3

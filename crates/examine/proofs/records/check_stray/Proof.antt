@@ -14,7 +14,7 @@ use Rattle.examine.proofs.records.check_stray.Tie as tie
 returns : tie.Need-returns
 returns c =
     let a = c.before.before.before.args in
-    stray_first a.row a.k (stray_in a.functions.now a.line-info.now a.row) c.if1.true
+    stray_first a.row a.k (stray_in a.functions.now a.line_info.now a.row) c.if1.true
 
 stray-line-requires : tie.Need-stray-line-requires
 stray-line-requires c κs = search rules
@@ -28,7 +28,7 @@ cast-refusal c = search rules
 cast-refusal-2 : tie.Need-overflow-cast-refusal-2
 cast-refusal-2 c =
     let a = c.before.before.before.before.before.before.before.args in
-    omega (arith, c.before.before.before.before.before.before.before.requires.few, stray_low a.functions.now a.line-info.now a.row _ (found_some _ _ (sym c.before.before.before.stray-line.ensures ∙ c.before.found.given.1)))
+    omega (arith, c.before.before.before.before.before.before.before.requires.few, stray_low a.functions.now a.line_info.now a.row _ (found_some _ _ (sym c.before.before.before.stray-line.ensures ∙ c.before.found.given.1)))
 
 refusal-requires : tie.Need-refusal-requires
 refusal-requires c κs = search rules

@@ -14,12 +14,12 @@ func-info-slot-requires c κs = search rules
 returns : tie.Need-returns
 returns c =
     let a = c.before.before.before.args in
-    c.func-info-slot.ensures ∙ own_func a.start.0 (func_info_row little a.func-info.now a.i) a.k c.before.if1.true
+    c.func-info-slot.ensures ∙ own_func a.start.0 (func_info_row little a.func_info.now a.i) a.k c.before.if1.true
 
 returns-2 : tie.Need-returns-2
 returns-2 c =
     let a = c.before.before.args in
-    moved_func a.start.0 (func_info_row little a.func-info.now a.i) a.k c.if1.false
+    moved_func a.start.0 (func_info_row little a.func_info.now a.i) a.k c.if1.false
 
 pub func-slot-spec : {M : Type 1} → statement M
 func-slot-spec =

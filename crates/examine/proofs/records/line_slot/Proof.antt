@@ -12,7 +12,7 @@ use Rattle.examine.proofs.records.line_slot.Statement.{statement}
 use Rattle.examine.proofs.records.line_slot.Tie as tie
 
 abbrev record_of : tie.Start → LineRecord
-record_of c = line_info_row little c.args.line-info.now c.args.i
+record_of c = line_info_row little c.args.line_info.now c.args.i
 
 line-info-slot-requires : tie.Need-line-info-slot-requires
 line-info-slot-requires c κs = search rules

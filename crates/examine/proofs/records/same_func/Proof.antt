@@ -16,7 +16,7 @@ abbrev there : tie.Start → FunctionRecord
 there s = func_info_row little s.args.shown.now s.args.j
 
 abbrev source : tie.Start → FunctionRecord
-source s = func_info_row little s.args.func-info.now s.args.i
+source s = func_info_row little s.args.func_info.now s.args.i
 
 abbrev here : tie.Start → FunctionRecord
 here s = func_of s.args.k s.args.start.0 (source s)

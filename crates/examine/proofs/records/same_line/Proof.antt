@@ -16,7 +16,7 @@ abbrev there : tie.Start → LineRecord
 there s = line_info_row little s.args.shown.now s.args.j
 
 abbrev source : tie.Start → LineRecord
-source s = line_info_row little s.args.line-info.now s.args.i
+source s = line_info_row little s.args.line_info.now s.args.i
 
 abbrev here : tie.Start → LineRecord
 here s = line_of s.args.k s.args.origin s.args.start.0 (source s)

@@ -30,7 +30,7 @@ finding-requires : tie.Need-finding-requires
 finding-requires c κs = search rules
 
 returns : tie.Need-returns
-returns c = ap some c.finding.ensures ∙ sym (ap (λ (b : Bool). wrong c.before.before.before.before.before.before b (eqb (there c.before.before.before.before.before.before).source 4)) (sym c.before.before.same-form.ensures ∙ not-true _ c.before.if1.true))
+returns c = ap some c.finding.ensures ∙ sym (ap (λ (b : Bool). wrong c.before.before.before.before.before.before b (eqb (there c.before.before.before.before.before.before).source 4)) (sym c.before.before.same_form.ensures ∙ not-true _ c.before.if1.true))
 
 source-requires : tie.Need-source-requires
 source-requires c κs = c.before.before.before.before.before.requires.slots.first
@@ -41,7 +41,7 @@ finding-requires-2 c κs = search rules
 returns-2 : tie.Need-returns-2
 returns-2 c =
     ap some c.finding2.ensures
-    ∙ sym (ap (λ (b : Bool). wrong c.before.before.before.before.before.before.before.before b (eqb (there c.before.before.before.before.before.before.before.before).source 4)) (sym c.before.before.before.before.same-form.ensures ∙ not-false _ c.before.before.before.if1.false)
+    ∙ sym (ap (λ (b : Bool). wrong c.before.before.before.before.before.before.before.before b (eqb (there c.before.before.before.before.before.before.before.before).source 4)) (sym c.before.before.before.before.same_form.ensures ∙ not-false _ c.before.before.before.if1.false)
     ∙ ap (wrong c.before.before.before.before.before.before.before.before true) (ne_eqb (there c.before.before.before.before.before.before.before.before).source 4 (λ e. c.before.if2.true (c.before.before.source.ensures ∙ e))))
 
 check-target-requires : tie.Need-check-target-requires
@@ -50,7 +50,7 @@ check-target-requires c κs = (c.before.before.before.before.before.before.befor
 returns-3 : tie.Need-returns-3
 returns-3 c =
     c.check-target.ensures
-    ∙ sym (ap (λ (b : Bool). wrong c.before.before.before.before.before.before.before.before b (eqb (there c.before.before.before.before.before.before.before.before).source 4)) (sym c.before.before.before.before.same-form.ensures ∙ not-false _ c.before.before.before.if1.false)
+    ∙ sym (ap (λ (b : Bool). wrong c.before.before.before.before.before.before.before.before b (eqb (there c.before.before.before.before.before.before.before.before).source 4)) (sym c.before.before.before.before.same_form.ensures ∙ not-false _ c.before.before.before.if1.false)
     ∙ ap (wrong c.before.before.before.before.before.before.before.before true) (eq-eqb (there c.before.before.before.before.before.before.before.before).source 4 (sym c.before.before.source.ensures ∙ c.before.if2.false)))
 
 pub check-reference-spec : {M : Type 1} → statement M

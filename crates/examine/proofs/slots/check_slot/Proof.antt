@@ -40,13 +40,13 @@ same-slot-requires : tie.Need-same-slot-requires
 same-slot-requires c κs = c.before.before.before.before.before.requires.0.slots
 
 returns : tie.Need-returns
-returns c = sym (ap (wrong c.before.before.before.before.before.before.before) c.before.before.enum_told.given.1 ∙ ap (changed c.before.before.before.before.before.before.before) (sym c.before.same-slot.ensures ∙ c.if1.true))
+returns c = sym (ap (wrong c.before.before.before.before.before.before.before) c.before.before.enum_told.given.1 ∙ ap (changed c.before.before.before.before.before.before.before) (sym c.before.same_slot.ensures ∙ c.if1.true))
 
 finding-requires : tie.Need-finding-requires
 finding-requires c κs = search rules
 
 returns-2 : tie.Need-returns-2
-returns-2 c = ap some c.finding.ensures ∙ sym (ap (wrong c.before.before.before.before.before.before.before.before) c.before.before.before.enum_told.given.1 ∙ ap (changed c.before.before.before.before.before.before.before.before) (sym c.before.before.same-slot.ensures ∙ c.before.if1.false))
+returns-2 c = ap some c.finding.ensures ∙ sym (ap (wrong c.before.before.before.before.before.before.before.before) c.before.before.before.enum_told.given.1 ∙ ap (changed c.before.before.before.before.before.before.before.before) (sym c.before.before.same_slot.ensures ∙ c.before.if1.false))
 
 enum-known-meaning : tie.Need-enum-known-meaning
 enum-known-meaning c = search rules

@@ -60,7 +60,7 @@ resolves c =
       tables = s.requires.tables;
       row_inside = s.requires.row_inside;
       slot_inside = omega (arith, turn c.before.before.before.before, c.before.before.before.slot_at.ensures);
-      first_is = s.requires.first-is;
+      first_is = s.requires.first_is;
       rel_is = with_is r c.before.before.before.before.before.before.before.before.function-section.ensures (omega (arith, c.before.before.place.ensures.0, c.before.before.before.before.before.before.before.function-offset.ensures)) c.relocation-at.ensures;
     }
 
@@ -115,7 +115,7 @@ meaning-of-requires : tie.Need-meaning-of-requires invariant-loop decreases-loop
 meaning-of-requires c κs = resolves c
 
 after-requires : tie.Need-after-requires invariant-loop decreases-loop
-after-requires c κs = omega (arith, first_low (resolves c.before), (good_function c.before.before.before.before.before.before.before.before.before.before.before.before.before.before.before.before.before.before.args.functions.now c.before.before.before.before.before.before.before.before.before.before.before.before.before.before.before.before.before.before.requires.tables.functions c.before.before.before.before.before.before.before.before.before.before.before.before.before.before.before.before.before.before.args.row c.before.before.before.before.before.before.before.before.before.before.before.before.before.before.before.before.before.before.requires.row_inside).slots-high, turn c.before.before.before.before.before, c.before.before.before.before.slot_at.ensures)
+after-requires c κs = omega (arith, first_low (resolves c.before), (good_function c.before.before.before.before.before.before.before.before.before.before.before.before.before.before.before.before.before.before.args.functions.now c.before.before.before.before.before.before.before.before.before.before.before.before.before.before.before.before.before.before.requires.tables.functions c.before.before.before.before.before.before.before.before.before.before.before.before.before.before.before.before.before.before.args.row c.before.before.before.before.before.before.before.before.before.before.before.before.before.before.before.before.before.before.requires.row_inside).slots_high, turn c.before.before.before.before.before, c.before.before.before.before.slot_at.ensures)
 
 after-requires-2 : tie.Need-after-requires-2 invariant-loop decreases-loop
 after-requires-2 c κs = omega (arith, c.before.before.before.before.before.before.before.before.before.before.before.before.before.before.before.before.before.before.before.requires.low, turn c.before.before.before.before.before.before, c.before.before.before.before.before.slot_at.ensures)
@@ -144,7 +144,7 @@ returns c =
     ∙ l.invariant.same ∙ wrong_here (wrong s) l.n (function_slots s.args.functions.now s.args.row) (turn c.before.before.before.before.before.before.before.before.before.before) (judged c.before.before ∙ told))
 
 add-n : tie.Need-overflow-add-n invariant-loop decreases-loop
-add-n c = omega (arith, turn c.before.before.before.before.before.before.before.before.before.before, (good_function c.before.before.before.before.before.before.before.before.before.before.before.before.before.before.before.before.before.before.before.before.before.before.before.args.functions.now c.before.before.before.before.before.before.before.before.before.before.before.before.before.before.before.before.before.before.before.before.before.before.before.requires.tables.functions c.before.before.before.before.before.before.before.before.before.before.before.before.before.before.before.before.before.before.before.before.before.before.before.args.row c.before.before.before.before.before.before.before.before.before.before.before.before.before.before.before.before.before.before.before.before.before.before.before.requires.row_inside).slots-high)
+add-n c = omega (arith, turn c.before.before.before.before.before.before.before.before.before.before, (good_function c.before.before.before.before.before.before.before.before.before.before.before.before.before.before.before.before.before.before.before.before.before.before.before.args.functions.now c.before.before.before.before.before.before.before.before.before.before.before.before.before.before.before.before.before.before.before.before.before.before.before.requires.tables.functions c.before.before.before.before.before.before.before.before.before.before.before.before.before.before.before.before.before.before.before.before.before.before.before.args.row c.before.before.before.before.before.before.before.before.before.before.before.before.before.before.before.before.before.before.before.before.before.before.before.requires.row_inside).slots_high)
 
 loop-less : tie.Need-loop-smaller invariant-loop decreases-loop
 loop-less c = omega (arith, turn c.before.before.before.before.before.before.before.before.before.before)

@@ -14,10 +14,10 @@ use borrow.Author.Rules.{rules}
 use Rattle.examine.proofs.slots.check_target.Statement.{statement}
 use Rattle.examine.proofs.slots.check_target.Tie as tie
 
-reaches : (c : tie.After-starts-at) → c.starts-at.result ≡ starts_at (target_of c.before.before.before.before.before.args.here.0 (slot_in little c.before.before.before.before.before.args.image.now c.before.before.before.before.before.args.here.0)) c.before.before.before.before.before.args.callee (pieces_of c.before.before.before.before.before.args.pieces.now)
+reaches : (c : tie.After-starts-at) → c.starts_at.result ≡ starts_at (target_of c.before.before.before.before.before.args.here.0 (slot_in little c.before.before.before.before.before.args.image.now c.before.before.before.before.before.args.here.0)) c.before.before.before.before.before.args.callee (pieces_of c.before.before.before.before.before.args.pieces.now)
 reaches c =
     let a = c.before.before.before.before.before.args in
-    c.starts-at.ensures
+    c.starts_at.ensures
     ∙ ap (λ (z : ℤ). starts_at z a.callee (pieces_of a.pieces.now))
     (to_z-of_z w64 _ (record { sfits = c.before.ahead.type-inv }) ∙ c.before.ahead.ensures
     ∙ ap (λ (z : ℤ). pos a.here.0 +ℤ (pos 1 +ℤ z)) (to_z-of_z w32 _ (record { sfits = c.before.before.immediate.type-inv }) ∙ c.before.before.immediate.ensures))

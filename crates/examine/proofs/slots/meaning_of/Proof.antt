@@ -14,12 +14,12 @@ use Rattle.examine.proofs.slots.meaning_of.Tie as tie
 after-requires : tie.Need-after-requires
 after-requires c κs =
     let s = c.before.before.before.before.before in
-    omega (arith, first_low s.requires, slots_low s.requires, s.requires.slot-inside)
+    omega (arith, first_low s.requires, slots_low s.requires, s.requires.slot_inside)
 
 is-plain-requires : tie.Need-is-plain-requires
 is-plain-requires c κs =
     let s = c.before.before.before.before.before.before in
-    omega (arith, end_inside s.requires, s.requires.slot-inside, c.after.ensures)
+    omega (arith, end_inside s.requires, s.requires.slot_inside, c.after.ensures)
 
 returns : tie.Need-returns
 returns c =

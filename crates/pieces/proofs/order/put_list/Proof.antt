@@ -102,7 +102,7 @@ add_at : tie.Need-overflow-add-at invariant-loop decreases-loop
 add_at c =
     let t = c.before.before.before.before.before in
     let s = start-of (loop-from-told t) in
-    omega (arith, c.function-slots2.ensures, (good_function s.args.functions.now s.pre.sound t.before.found.given.0.0 (row_in t)).slots-high, t.before.before.before.before.if1.false, s.pre.few)
+    omega (arith, c.function-slots2.ensures, (good_function s.args.functions.now s.pre.sound t.before.found.given.0.0 (row_in t)).slots_high, t.before.before.before.before.if1.false, s.pre.few)
 
 add-count : tie.Need-overflow-add-count invariant-loop decreases-loop
 add-count c =

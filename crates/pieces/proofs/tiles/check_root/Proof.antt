@@ -22,7 +22,7 @@ is-piece-requires c κs = omega arith
 returns-2 : tie.Need-returns-2
 returns-2 c =
     let a = c.before.before.before.before.args in
-    sym (root_right a.root a.pieces.now (omega arith) (sym c.before.is-piece.ensures ∙ c.if2.true))
+    sym (root_right a.root a.pieces.now (omega arith) (sym c.before.is_piece.ensures ∙ c.if2.true))
 
 refusal-requires-2 : tie.Need-refusal-requires-2
 refusal-requires-2 c κs = search rules
@@ -30,7 +30,7 @@ refusal-requires-2 c κs = search rules
 returns-3 : tie.Need-returns-3
 returns-3 c =
     let a = c.before.before.before.before.before.args in
-    ap some c.refusal2.ensures ∙ sym (root_other a.root a.pieces.now (omega arith) (sym c.before.before.is-piece.ensures ∙ c.before.if2.false))
+    ap some c.refusal2.ensures ∙ sym (root_other a.root a.pieces.now (omega arith) (sym c.before.before.is_piece.ensures ∙ c.before.if2.false))
 
 pub check-root-spec : {M : Type 1} → statement M
 check-root-spec =

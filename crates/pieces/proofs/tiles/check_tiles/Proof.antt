@@ -54,7 +54,7 @@ row_slots c = c.function-slots.ensures ∙ ap (function_slots (functions-of (loo
 few_slots : (c : tie.After-function-slots invariant-loop decreases-loop) → c.function-slots.result.0 ≤ most_function_slots
 few_slots c =
     let l = loop-of c.before in
-    omega (arith, row_slots c, (good_function (functions-of l) (start-of l).pre.table (piece_row (pieces-of l) l.loop.k) (row-known c.before)).slots-high)
+    omega (arith, row_slots c, (good_function (functions-of l) (start-of l).pre.table (piece_row (pieces-of l) l.loop.k) (row-known c.before)).slots_high)
 
 few_pieces : (l : tie.At-loop invariant-loop decreases-loop) → l.loop.k ≤ most_image_slots
 few_pieces l = omega (arith, l.loop.invariant.most, (start-of l).requires.few)

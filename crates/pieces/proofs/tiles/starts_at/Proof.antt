@@ -62,7 +62,7 @@ returns-3 c =
     let n = nat_abs s.args.target in
     let k : b.starts-before.result ≡ starts_before s.args.pieces.now n = rw (itself s) at b.starts-before.ensures.0 in
     rw (at_most_one s.args.pieces.now s.requires n s.args.target (own e).is s.args.row b.starts-before.result k (omega arith))
-    (rw (itself s) at c.is-piece.ensures)
+    (rw (itself s) at c.is_piece.ensures)
 
 pub starts-at-spec : {M : Type 1} → statement M
 starts-at-spec =

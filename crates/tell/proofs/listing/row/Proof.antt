@@ -65,7 +65,7 @@ copy-row-requires c κs = search rules
 returns : tie.Need-returns
 returns c =
     let s = c.before.before.before.before.before.before.before.before.before.before.before.args in
-    a_copy s.own s.lines.now s.slot _ _ _ _ _ _ _ _ _ _ c.before.before.before.before.before.before.before.u32-at.ensures c.before.before.before.before.before.before.u32-at2.ensures c.before.before.before.found.given.1 c.before.before.before.before.before.source-at.ensures c.before.line-of.ensures c.copy-row.ensures.0 c.copy-row.ensures.1
+    a_copy s.own s.lines.now s.slot _ _ _ _ _ _ _ _ _ _ c.before.before.before.before.before.before.before.u32-at.ensures c.before.before.before.before.before.before.u32-at2.ensures c.before.before.before.found.given.1 c.before.before.before.before.before.source-at.ensures c.before.line_of.ensures c.copy-row.ensures.0 c.copy-row.ensures.1
 
 enum_told : tie.Need-enum-told
 enum_told c = search rules

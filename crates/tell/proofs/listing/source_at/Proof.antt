@@ -15,7 +15,7 @@ returns : tie.Need-returns
 unfolding source_at
 returns c =
     let a = c.before.before.before.args in
-    c.source-of.ensures ∙ ap (source_of a.pieces.now a.slot) c.before.piece-at.ensures.0
+    c.source_of.ensures ∙ ap (source_of a.pieces.now a.slot) c.before.piece-at.ensures.0
 
 pub source-at-spec : {M : Type 1} → statement M
 source-at-spec = tie.close (tie.spec piece-at-requires source-of-requires returns)

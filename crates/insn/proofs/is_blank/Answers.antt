@@ -1,0 +1,14 @@
+-- The word of the first four bytes is 0 just where each is.
+use mathlib.Core.Path.{◌∙◌, ap}
+use Prim.Native.Nat.{ℕ, ◌*◌}
+use native.Mathlib.Omega.{arith}
+use lib.Dec.{eqb}
+use Rattle.rules.specs.Bytes.{little, u32_at, slot_size}
+use Rattle.insn.proofs.Words.{blank_word}
+use Rattle.insn.proofs.is_blank.Goals as goal
+
+pub returns : goal.returns
+returns c =
+    let code = c.args.code.now in
+    ap (λ (w : ℕ). eqb w 0) (c.u32_at.ensures ∙ ap (u32_at little code) c.start_of.ensures.0)
+    ∙ blank_word code (slot_size * c.args.slot.0) (λ k. omega (arith, c.type_inv.code k))

@@ -1,0 +1,22 @@
+-- The first broken row, or what is said later.
+use mathlib.Core.Path.{◌≡◌, sym, ◌∙◌}
+use mathlib.Core.Option.{some}
+use Prim.Native.Nat.{◌≤◌}
+use native.Mathlib.Omega.{arith}
+use Rattle.rules.specs.Rows.{first_broken}
+use Rattle.rows.proofs.Laws.{found_some}
+use Rattle.tables.proofs.Refusals.{broken_low}
+use Rattle.tables.proofs.checks.or_broken.Goals.{After-table_number}
+use Rattle.tables.proofs.checks.or_broken.Goals as goal
+
+row_found : (c : After-table_number) → first_broken c.args.table c.args.t.now ≡ some c.in-At.k
+row_found c =
+    let a = c.args in
+    found_some (first_broken a.table a.t.now) c.in-At.k (sym c.first_broken.ensures ∙ c.in-At.is)
+
+row_low : (c : After-table_number) → c.in-At.k ≤ 0xFFFF_FFFF
+row_low c =
+    broken_low c.args.table c.args.t.now c.in-At.k c.requires (row_found c)
+
+pub overflow_cast-k : goal.overflow_cast-k
+overflow_cast-k c = record { fits = omega (arith, row_low c) }
