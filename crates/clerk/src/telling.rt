@@ -1,5 +1,6 @@
 // Sentences, written out: answers on standard output, and what went wrong on standard error. The words are tell's.
 ghost use Rattle.std.specs.Prelude.{◌≡◌, true, ◌≤◌};
+ghost use Rattle.clerk.specs.Counts.{IsPrefixLen};
 ghost use Rattle.clerk.specs.Status.{either, status_of, read_status};
 
 use crate::reading::Read;
@@ -92,7 +93,9 @@ fn status_of(told: Told) -> u32
     REFUSED
 }
 
-fn spoken(sentence: Sentence) -> Words {
+fn spoken(sentence: Sentence) -> Words
+    ensures { IsPrefixLen result.used result.bytes }
+{
     let text = TEXT;
     let lines = sentence.lines;
     let numbers = sentence.numbers;
