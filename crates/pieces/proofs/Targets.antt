@@ -11,7 +11,7 @@ use native.Mathlib.Omega.{arith}
 use borrow.Author.Tests.{ltb-true, ltb-false, lt-ltb, ne_eqb}
 use lib.IntN.{ℤ, pos, negsuc}
 use lib.Signed.{lt_z}
-use lib.Dec.{eqb, ltb}
+use lib.Dec.{eqb}
 use Rattle.rules.specs.Faithful.{Piece}
 use Rattle.rules.specs.Link.{run}
 use Rattle.rules.specs.Tables.{is_at}

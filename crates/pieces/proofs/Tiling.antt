@@ -2,11 +2,11 @@
 -- passes has.
 -- Assumes nothing.
 use mathlib.Core.Path.{◌≡◌, refl, sym, ap, ◌∙◌}
-use mathlib.Core.Logic.{◌⊎◌, inl, inr, ⊎_elim}
+use mathlib.Core.Logic.{◌⊎◌, inl, inr}
 use mathlib.Core.Bool.{Bool, true, false, cond, ◌&&◌}
 use mathlib.Core.Option.{Option, none, some}
 use mathlib.Core.List.{List, [], ◌∷◌}
-use Prim.Native.Nat.{ℕ, zero, suc, ◌+◌, ◌-◌, ◌*◌, ◌/◌, ◌≤◌, ◌<◌}
+use Prim.Native.Nat.{ℕ, zero, suc, ◌+◌, ◌-◌, ◌≤◌, ◌<◌}
 use native.Mathlib.Nat.{eq-or-lt_of_le}
 use native.Mathlib.Numerals.{add-one}
 use native.Mathlib.Omega.{arith}
@@ -21,7 +21,7 @@ use Rattle.rules.specs.Bytes.{little}
 use Rattle.rules.specs.Answers.{Reply, reply}
 use Rattle.rules.specs.Tables.{object_of}
 use Rattle.rules.specs.Rows.{whole_rows, function_slots, Offered, or_else, tables_of}
-use Rattle.rules.specs.Lookups.{Sound, Rising}
+use Rattle.rules.specs.Lookups.{Sound}
 use Rattle.rules.specs.Pieces.{piece_size, piece_row, piece_start, piece_at, pieces_of}
 use Rattle.rules.specs.Examine.{root_wrong, piece_wrong, tiles_wrong}
 use Rattle.rules.proofs.Searches.{rising_near}

@@ -1,6 +1,6 @@
 -- A tables file as it is held: eight u32 lengths, then tables 1 to 5, 7 and 8. Table 6 has a buffer of its own.
 -- Assumes nothing.
-use Rattle.std.specs.Prelude.{Bool, true, false, cond, List, [], ℕ, zero, suc, ◌+◌, ◌*◌, ◌-◌, eqb, leb, length, take, drop}
+use Rattle.std.specs.Prelude.{Bool, true, false, cond, List, [], ℕ, zero, suc, ◌+◌, ◌*◌, eqb, leb, length, take, drop}
 use Rattle.rules.specs.Bytes.{little, u32_at}
 
 -- the bytes of table i + 1

@@ -1,5 +1,6 @@
 // What the tool bark says and lists, as functions of the bytes that it holds. Nothing here reads or writes a file.
 #![tactic(auto)]
+
 pub mod commands;
 pub mod files;
 pub mod lines;
