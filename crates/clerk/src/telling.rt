@@ -1,13 +1,12 @@
 // Sentences, written out: answers on standard output, and what went wrong on standard error. The words are tell's.
 ghost use Rattle.std.specs.Prelude.{◌≡◌, true, ◌≤◌};
-ghost use Rattle.clerk.specs.Counts.{IsPrefixLen};
 ghost use Rattle.clerk.specs.Status.{either, status_of, read_status};
 
 use crate::reading::Read;
 use crate::status::{DONE, NO_INPUT, NO_OUTPUT, REFUSED, USAGE};
 use std::fmt::{Display, Formatter, Write};
 use std::{fmt, io};
-use tell::lines::{Words, spoken_line};
+use tell::lines::spoken_line;
 use tell::room::SHOWN_PIECES;
 use tell::text::{
     CANNOT_END, CANNOT_READ, END, ENDS_WITHIN, GOES_ON, IMAGE_FILE, NEEDS, NO_LENGTHS, PIECES_FILE,
@@ -93,29 +92,16 @@ fn status_of(told: Told) -> u32
     REFUSED
 }
 
-fn spoken(sentence: Sentence) -> Words
-    ensures { IsPrefixLen result.used result.bytes }
-{
-    let text = TEXT;
-    let lines = sentence.lines;
-    let numbers = sentence.numbers;
-    spoken_line(&text, &lines, &numbers)
-}
-
 // A sentence, written out by one call.
 pub(crate) fn say(rt: &impl Print, sentence: Sentence) -> io::Result<()> {
-    let words = spoken(sentence);
-    let bytes = words.bytes;
-    let n = words.used;
-    rt.write_all(&bytes[..n])
+    let words = spoken_line(&TEXT, &sentence.lines, &sentence.numbers);
+    rt.write_all(&words.bytes[..words.used])
 }
 
 // The same on standard error. What it does not take is lost.
 fn warn(rt: &impl Eprint, sentence: Sentence) {
-    let words = spoken(sentence);
-    let bytes = words.bytes;
-    let n = words.used;
-    let _ = rt.eprint(Name(&bytes[..n]));
+    let words = spoken_line(&TEXT, &sentence.lines, &sentence.numbers);
+    let _ = rt.eprint(Name(&words.bytes[..words.used]));
 }
 
 // What a step answered: `accepts` and `refuses` are the text's lines that its words begin with, `done` the one that a done step is told with.
