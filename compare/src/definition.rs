@@ -49,7 +49,7 @@ fn kind(k: u8) -> &'static str {
 }
 
 fn map_row(m: &Map) -> String {
-    format!("map-row {} {} {} {}", m.section, option(m.symbol), integer(m.fd.into()), m.data == 1)
+    format!("map_row {} {} {} {}", m.section, option(m.symbol), integer(m.fd.into()), m.data == 1)
 }
 
 fn tables(rows: &Rows) -> String {
@@ -91,11 +91,11 @@ fn maps(case: &Case, rows: &Rows) -> String {
 
 fn error(cause: Cause) -> &'static str {
     match cause {
-        Cause::UnknownSymbol => "errs unknown-symbol",
-        Cause::SectionNotFound => "errs section-not-found",
-        Cause::UnknownFunction => "errs unknown-function",
-        Cause::UnknownProgram => "errs unknown-program",
-        Cause::InvalidRelocationOffset => "errs invalid-relocation-offset",
+        Cause::UnknownSymbol => "errs unknown_symbol",
+        Cause::SectionNotFound => "errs section_not_found",
+        Cause::UnknownFunction => "errs unknown_function",
+        Cause::UnknownProgram => "errs unknown_program",
+        Cause::InvalidRelocationOffset => "errs invalid_relocation_offset",
     }
 }
 
@@ -121,7 +121,7 @@ fn vector(case: &Case, both: &Both) -> (String, String) {
     let (section, address) = rows.functions.get(case.root as usize).map_or((65_536, 0), |f| (f.section, f.address));
     let [func_nums, line_nums] = nums(case, rows);
     let (step, first, last) = match (&both.ran.maps, &both.ran.calls) {
-        (_, Some(calls)) if case.steps == Steps::CallsAlone => ("calls-alone", None, image(calls)),
+        (_, Some(calls)) if case.steps == Steps::CallsAlone => ("calls_alone", None, image(calls)),
         (Ended::Ok(_), Some(calls)) => ("steps", Some(mapped(&both.ran.maps)), image(calls)),
         (maps, _) => ("steps", Some(mapped(maps)), mapped(maps)),
     };
@@ -210,7 +210,7 @@ pub fn write(file: &Path, seed: u64, per_sort: usize) {
             answers += &format!("    {cons}{answer}\n");
         }
         out += &format!(
-            "\nvectors-{0} : (\n{asked}    ∷ [])\n    ≡ (\n{answers}    ∷ [])\nunfolding {unfolding}\nvectors-{0} = refl\n",
+            "\nvectors_{0} : (\n{asked}    ∷ [])\n    ≡ (\n{answers}    ∷ [])\nunfolding {unfolding}\nvectors_{0} = refl\n",
             n + 1
         );
     }

@@ -11,7 +11,7 @@ use crate::{
 const INPUTS: u64 = 400_000;
 const GROUP: usize = 10;
 const WIDTH: usize = 140;
-const UNFOLDING: &str = "u32At chunks read-at read-func-info read-line-info parse-func parse-line func-info-bytes line-info-bytes";
+const UNFOLDING: &str = "u32_at chunks read_at read_func_info read_line_info parse_func parse_line crate_func_info_bytes crate_line_info_bytes";
 
 fn list(items: impl IntoIterator<Item = String>) -> String {
     let items: Vec<String> = items.into_iter().collect();
@@ -131,7 +131,7 @@ pub fn write(file: &Path, seed: u64) {
             answers += &format!("    {cons}{}\n", wrapped(&answer));
         }
         out += &format!(
-            "\nvectors-{0} : (\n{asked}    ∷ [])\n    ≡ (\n{answers}    ∷ [])\nunfolding {UNFOLDING}\nvectors-{0} = refl\n",
+            "\nvectors_{0} : (\n{asked}    ∷ [])\n    ≡ (\n{answers}    ∷ [])\nunfolding {UNFOLDING}\nvectors_{0} = refl\n",
             n + 1
         );
     }

@@ -1,5 +1,6 @@
 // Refusals made, and answers told: document 01's number returned, its place numbers written to a lent buffer.
 #![tactic(auto)]
+
 ghost use Rattle.std.specs.Prelude.{◌≡◌};
 ghost use Rattle.rules.specs.Answers.{reply, number_of, places_of, refused_reply, reply_of};
 ghost use Rattle.answers.specs.Told.{Told};

@@ -5,7 +5,7 @@ use mathlib.Core.Logic.{◌≢◌, ◌⊎◌, inl, inr}
 use mathlib.Core.Bool.{Bool, true, false, cond, not, ◌&&◌, ◌||◌}
 use mathlib.Core.Option.{none, some}
 use mathlib.Core.List.Memᴰ
-use mathlib.Core.List.{List, [], ◌∷◌, Memᴰ}
+use mathlib.Core.List.{List, Memᴰ}
 use Prim.Native.Nat.{ℕ, zero, suc, ◌+◌, ◌*◌, ◌/◌, ◌≤◌, ◌<◌}
 use native.Mathlib.Nat.{min-le_right}
 use native.Mathlib.Omega.{arith}
@@ -13,12 +13,12 @@ use native.Mathlib.Decide.{dec_lt}
 use lib.Dec.{eqb}
 use lib.ListN.{length, get_or-eq_default}
 use borrow.Author.Tests.{eq-eqb}
-use Rattle.rules.specs.declared.Table.TheVariants.{Functions, Relocations, Maps, Symbols, Instructions}
+use Rattle.rules.specs.declared.Table.TheVariants.{Functions, Maps, Symbols, Instructions}
 use Rattle.rules.specs.Link.{run}
 use Rattle.rules.specs.Bytes.{Order, little, u32_at, byte_at, Fits, half32}
-use Rattle.rules.specs.Tables.{Symbol, Function, Relocation, MapRow, Tables, no_function, row_of, base, Earlier, RowsRise}
+use Rattle.rules.specs.Tables.{Symbol, Function, Relocation, MapRow, Tables, no_function, row_of, base, RowsRise}
 use Rattle.rules.specs.Maps.{symbol_of}
-use Rattle.rules.specs.Rows.{row_size, most_function_slots, whole_rows, none_number, any_from, same_map, map_symbol, map_fd, map_section, relocation_section, relocation_offset, symbol_row, relocation_row, map_row, or_none, total, Offered, tables_of, map_step_refusal, link_refusal}
+use Rattle.rules.specs.Rows.{row_size, most_function_slots, whole_rows, none_number, any_from, same_map, map_symbol, map_fd, map_section, symbol_row, map_row, or_none, total, Offered, tables_of, map_step_refusal, link_refusal}
 use Rattle.rules.specs.Lookups.{Sound, RisingPair, Checked}
 use Rattle.rules.specs.Entries.{Outputs, room_in}
 use Rattle.rules.proofs.Rounds.{u32_below}

@@ -15,7 +15,7 @@ use Rattle.rules.specs.Tables.{SymbolKind, other, text, section, Symbol, Functio
 use Rattle.rules.specs.Maps.{only}
 use Rattle.equality.specs.Crate as Crate
 use Rattle.equality.specs.Crate.{u32, u64, i32, add_u64, mul_u64, add_u32, sub_u32, add_i32, sub_i32, insn_is_call, Result, ok, err, panics, too_deep, Error, unknown_symbol, section_not_found, unknown_function, unknown_program, invalid_relocation_offset, Linker, relocate_map, relocate_maps, relocate_functions, object_relocate_maps, slot_of, relocate_from, relocate, link_new, relocate_calls}
-use Rattle.equality.specs.Domain.{Hidden, crate_of}
+use Rattle.equality.specs.Domain.{crate_of}
 use Rattle.equality.specs.Demand2.{both_steps}
 
 -- what the crate answers: all functions' slots after the map step; the program with its records and both `num_info`; an error; a panic

@@ -1,6 +1,6 @@
 -- The crate's object of some tables, and document 01's "Domain of equality with the Rust", clause by clause.
 -- Assumes nothing.
-use Rattle.std.specs.Prelude.{◌≡◌, ◌≢◌, ◌⊎◌, true, cond, ◌&&◌, ℕ, zero, suc, ◌+◌, ◌*◌, ◌≤◌, ◌<◌, ℤ, pos, eqb, length}
+use Rattle.std.specs.Prelude.{◌≡◌, ◌≢◌, ◌⊎◌, true, cond, ◌&&◌, ℕ, ◌+◌, ◌≤◌, ◌<◌, ℤ, pos, eqb, length}
 use Rattle.std.proofs.Math.Option.{none, some}
 use mathlib.Core.List.{List, [], ◌∷◌, Memᴰ}
 use Rattle.rules.specs.Object.{Insn, is_call}

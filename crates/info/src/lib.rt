@@ -1,5 +1,6 @@
 // Readers of .BTF.ext data: function and line records as rows, and record k as a part of the caller's bytes.
 #![tactic(auto)]
+
 ghost use Rattle.std.specs.Prelude.{◌≡◌, ◌+◌, ◌*◌, ◌/◌, ◌%◌, ◌≤◌, ◌<◌, ◌^◌, eqb, length};
 ghost use Rattle.rules.specs.Bytes.{little, u32_at, padded};
 ghost use Rattle.rules.specs.Answers.{reply_of};

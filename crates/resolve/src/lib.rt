@@ -1,5 +1,6 @@
 // The judgement of a slot: what it names by section and address, and what the link makes of that.
 #![tactic(auto)]
+
 ghost use Rattle.std.specs.Prelude.{◌≡◌, [], ◌+◌, ◌*◌, ◌<◌, ◌≤◌, pos, ◌+ℤ◌};
 ghost use Rattle.std.proofs.Math.Option.{some};
 ghost use Rattle.rules.specs.declared.Table.TheVariants.{Functions};

@@ -1,16 +1,16 @@
 -- Two uses of `link_keeps`: an accepted image is within the room, and every function added passed what `admits` tests of it.
 -- Assumes nothing.
-use mathlib.Core.Path.{◌≡◌, refl, sym, ◌∙◌, ap, subst}
-use mathlib.Core.Option.{Option, none, some}
+use mathlib.Core.Path.{◌≡◌}
+use mathlib.Core.Option.{Option, none}
 use mathlib.Core.Logic.{◌⊎◌, inl, inr}
 use mathlib.Core.List.Memᴰ
-use mathlib.Core.List.{List, [], ◌∷◌, ◌++◌, Memᴰ}
-use Prim.Native.Nat.{ℕ, zero, suc, ◌+◌, ◌≤◌}
+use mathlib.Core.List.{[], ◌∷◌, Memᴰ}
+use Prim.Native.Nat.{ℕ, ◌+◌, ◌≤◌}
 use native.Mathlib.Omega.{arith}
 use lib.ListN.{length, length-set, length-append}
 use Rattle.rules.specs.Object.{Object}
 use Rattle.rules.specs.Faithful.{Piece, piece}
-use Rattle.rules.specs.Link.{State, Refusal, linked, slots_of, extended, rewritten, root_only, link}
+use Rattle.rules.specs.Link.{State, Refusal, linked, slots_of, link}
 use Rattle.rules.proofs.Linking.{length_run}
 use Rattle.rules.proofs.Invariant.{link_keeps}
 

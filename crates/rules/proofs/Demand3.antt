@@ -1,30 +1,29 @@
 -- Demand 3: an accepted link keeps the path, over the bytes that the entry reads and writes.
 -- Assumes nothing.
 use mathlib.Core.Path.{◌≡◌, refl, sym, ap, subst, ◌∙◌}
-use mathlib.Core.Logic.{◌≢◌}
 use mathlib.Core.Bool.{Bool, true, false, cond}
 use mathlib.Core.Option.{Option, none, some}
-use mathlib.Core.List.{List, [], ◌∷◌, ◌++◌, Memᴰ}
-use Prim.Native.Nat.{ℕ, zero, suc, ◌+◌, ◌-◌, ◌*◌, ◌/◌, ◌≤◌, ◌<◌, min}
+use mathlib.Core.List.{List, ◌∷◌, Memᴰ}
+use Prim.Native.Nat.{ℕ, ◌+◌, ◌-◌, ◌*◌, ◌/◌, ◌≤◌, ◌<◌}
 use native.Mathlib.Omega.{arith}
 use native.Mathlib.Decide.{dec_lt}
 use lib.IntN.{ℤ, pos, ◌+ℤ◌}
 use lib.Dec.{eqb, leb}
 use borrow.Author.Tests.{leb-true}
-use lib.ListN.{length, get_or, take, replicate, get_or-eq_default}
+use lib.ListN.{length, take, replicate, get_or-eq_default}
 use lib.Seq.{take_at}
 use Rattle.rules.specs.Object.{Insn, Object, is_call, is_wide_load, Named, nothing, function, missing, unclear, Meaning, copied, call, reference, refused, decide, meaning, calling, referring}
 use Rattle.rules.specs.Faithful.{Piece, piece, blank, slot_at, Placed, LinkOf, Linked, Faithful}
 use Rattle.rules.specs.Link.{State, Refusal, refusal, Outcome, linked, refuses, unfinished, link}
 use Rattle.rules.specs.Walk.{Walk, standing, stopped, ended, left, SourcePlace, place, source_walk, image_walk}
 use Rattle.rules.specs.Together.{Together, both_stand, SamePlace, KeepsPath}
-use Rattle.rules.specs.Bytes.{Order, Fits, half16, half32, decode, decoded, encoded, padded, AreBytes}
-use Rattle.rules.specs.Tables.{SymbolKind, other, text, section, Tables, FunctionRecord, LineRecord, or_missing, slots_on, row_of, function_records_of, lines_of, base, insn_of, row_at, function_at, by_symbol, by_symbol_row, by_relocation, object_of, refers_to_code}
+use Rattle.rules.specs.Bytes.{Order, half32, decoded, encoded, padded, AreBytes}
+use Rattle.rules.specs.Tables.{SymbolKind, other, text, section, Tables, or_missing, slots_on, row_of, function_records_of, lines_of, base, insn_of, row_at, function_at, by_symbol, by_symbol_row, by_relocation, object_of, refers_to_code}
 use Rattle.rules.specs.Records.{Room, image_functions, image_lines, room_for, stray_line, then_stray, admits, root_admits, link_step}
-use Rattle.rules.specs.Answers.{Reply, reply}
-use Rattle.rules.specs.Rows.{Offered, tables_of, link_refusal, most_image_slots}
+use Rattle.rules.specs.Answers.{Reply}
+use Rattle.rules.specs.Rows.{Offered, tables_of, link_refusal}
 use Rattle.rules.specs.Entries.{func_info_bytes, line_info_bytes, Outputs, room_in, LinkResult, accepted_link, by_outcome, unless_link_refused, link_entry}
-use Rattle.rules.specs.Demand3.{count, used_image, used_func_info, used_line_info, Calls, FunctionReference, Refers, PathKeptBy, PathKept}
+use Rattle.rules.specs.Demand3.{used_image, Calls, FunctionReference, Refers, PathKeptBy, PathKept}
 use Rattle.rules.proofs.Path.{keeps_path, stands_in}
 use Rattle.rules.proofs.Slots.{meaning_fits, call_opcode, wide_opcode}
 use Rattle.rules.proofs.Slots as Slots

@@ -1,12 +1,12 @@
 -- The link step's fuel, the number of rows, is enough: each function inside another leaves one less to be placed.
 -- Assumes nothing.
-use mathlib.Core.Path.{◌≡◌, refl, sym, ◌∙◌, ap, subst}
+use mathlib.Core.Path.{◌≡◌, refl, ap}
 use mathlib.Core.Bool.{Bool, true, false, cond}
 use mathlib.Core.Option.{Option, none, some}
 use mathlib.Core.Logic.{◌⊎◌, inl, inr}
 use mathlib.Core.List.{List, [], ◌∷◌, ◌++◌}
 use Prim.Native.Nat.{ℕ, zero, suc, ◌+◌, ◌≤◌, ◌<◌}
-use native.Mathlib.Nat.{eq-or-lt_of_le, le_of_suc-le-suc, le_refl}
+use native.Mathlib.Nat.{eq-or-lt_of_le, le_of_suc-le-suc}
 use native.Mathlib.Omega.{arith}
 use lib.ListN.{length}
 use lib.Dec.{eqb}
@@ -14,8 +14,7 @@ use borrow.Author.Tests.{eq-eqb}
 use Rattle.rules.specs.Object.{Insn, is_call, Named, nothing, function, missing, unclear, Object, is_wide_load, Meaning, copied, call, reference, refused, decide, meaning, calling, referring}
 use Rattle.rules.specs.Faithful.{Piece, piece}
 use Rattle.rules.specs.Link.{State, Refusal, Outcome, linked, refuses, unfinished, and_then, start_of, extended, rewritten, pointing, at_slot, visit, unless, append, root_only, link}
-use Rattle.rules.proofs.Grown.{Grown}
-use Rattle.rules.proofs.Linking.{Appended, append_ok}
+use Rattle.rules.proofs.Linking.{append_ok}
 
 abbrev pub Finished : Outcome → Type 0
 Finished (linked state) = Unit {0}

@@ -1,15 +1,15 @@
 -- How the state grows while slots are visited.
 -- Assumes nothing.
-use mathlib.Core.Path.{◌≡◌, refl, sym, ◌∙◌, ap, subst}
-use mathlib.Core.Logic.{◌⊎◌, inl, inr, ◌≢◌}
+use mathlib.Core.Path.{◌≡◌, refl, sym, ◌∙◌, ap}
+use mathlib.Core.Logic.{◌⊎◌, inl, inr}
 use mathlib.Core.List.Memᴰ
-use mathlib.Core.List.{List, [], ◌∷◌, ◌++◌, append-nil, append_assoc, Memᴰ}
-use Prim.Native.Nat.{ℕ, zero, suc, ◌+◌, ◌≤◌, ◌<◌}
+use mathlib.Core.List.{List, [], ◌++◌, append-nil, append_assoc, Memᴰ}
+use Prim.Native.Nat.{ℕ, suc, ◌+◌, ◌≤◌, ◌<◌}
 use native.Mathlib.Omega.{arith}
-use lib.ListN.{length, set, length-set}
-use lib.Seq.{get_or-set_same, get_or-set_other}
+use lib.ListN.{length, length-set}
+use lib.Seq.{get_or-set_other}
 use Rattle.rules.specs.Object.{Insn, Object, Meaning, copied, call, reference, refused, meaning}
-use Rattle.rules.specs.Faithful.{Piece, piece, blank, slot_at, Tile, Placed, LinkOf, Linked}
+use Rattle.rules.specs.Faithful.{Piece, piece, blank, slot_at, Tile, LinkOf, Linked}
 use Rattle.rules.specs.Link.{State, rewritten}
 use Rattle.rules.proofs.Tiles.{tile_le, tile_fits, tile_append}
 

@@ -1,7 +1,6 @@
 -- The map step as code does it: everything checked first, then judged again by the slots as they stand, and rewritten in place.
 -- That it is the map step: `map_step_in_place_lem` (MapsCode). Not among the definitions that a reader has to believe.
 -- Assumes nothing.
-use mathlib.Core.Option.{Option}
 use mathlib.Core.List.{List, [], ◌∷◌}
 use Prim.Native.Nat.{ℕ}
 use Rattle.rules.specs.Object.{Insn}

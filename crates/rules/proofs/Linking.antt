@@ -4,18 +4,18 @@ use mathlib.Core.Path.{◌≡◌, refl, sym, ◌∙◌, ap, subst}
 use mathlib.Core.Bool.{Bool, true, false, cond}
 use mathlib.Core.Option.{Option, none, some}
 use mathlib.Core.List.Memᴰ
-use mathlib.Core.List.{List, [], ◌∷◌, ◌++◌, append_assoc, Memᴰ}
+use mathlib.Core.List.{List, [], ◌∷◌, append_assoc, Memᴰ}
 use mathlib.Core.Logic.{◌⊎◌, inl, inr}
 use Prim.Native.Nat.{ℕ, zero, suc, ◌+◌, ◌≤◌, ◌<◌, zero-le}
 use native.Mathlib.Nat.{eq-or-lt_of_le, add-zero, add-suc, suc-add, zero-add}
 use native.Mathlib.Omega.{arith}
-use lib.ListN.{length, set, length-set, length-append, get_or-append, get_or}
-use lib.Seq.{get_or-set_same, get_or-set_other, get_or-append-add}
+use lib.ListN.{length, length-append, get_or-append, get_or}
+use lib.Seq.{get_or-set_same, get_or-append-add}
 use lib.Dec.{eqb}
 use borrow.Author.Tests.{eqb-true}
 use Rattle.rules.specs.Object.{Insn, Object, Meaning, copied, call, reference, refused, meaning, calling, referring}
-use Rattle.rules.specs.Faithful.{Piece, piece, blank, slot_at, Tile, Placed, LinkOf, Linked, Faithful}
-use Rattle.rules.specs.Link.{State, Refusal, refusal, Outcome, linked, refuses, unfinished, and_then, run, slots_of, start_of, extended, rewritten, pointing, at_slot, visit, unless, append, root_only, link}
+use Rattle.rules.specs.Faithful.{Piece, piece, blank, slot_at, Placed, LinkOf, Linked, Faithful}
+use Rattle.rules.specs.Link.{State, Refusal, Outcome, linked, refuses, unfinished, and_then, run, slots_of, start_of, extended, rewritten, pointing, at_slot, visit, unless, append, root_only, link}
 use Rattle.rules.proofs.Grown.{linked_more, Grown, grown_refl, grown_rewritten, grown_longer, grown_placed, grown_then}
 
 -- an outcome is one of three

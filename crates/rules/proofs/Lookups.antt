@@ -1,18 +1,17 @@
 -- A function that the tables name is a row of table 3, so the link step over tables ends. And document 01's worked objects, from their bytes.
 -- Assumes nothing.
-use mathlib.Core.Path.{◌≡◌, refl}
 use mathlib.Core.Bool.{Bool, true, false, cond, ◌&&◌}
 use mathlib.Core.Option.{Option, none, some}
-use mathlib.Core.List.{List, [], ◌∷◌, ◌++◌, map}
-use Prim.Native.Nat.{ℕ, zero, suc, ◌+◌, ◌*◌, ◌<◌}
+use mathlib.Core.List.{List, [], ◌∷◌}
+use Prim.Native.Nat.{ℕ, suc, ◌+◌, ◌*◌, ◌<◌}
 use native.Mathlib.Nat.{zero-add, add-suc, suc-add}
 use native.Mathlib.Omega.{arith}
-use lib.IntN.{ℤ, pos, negsuc, ◌+ℤ◌}
+use lib.IntN.{ℤ, pos, ◌+ℤ◌}
 use lib.Dec.{eqb}
 use lib.ListN.{length}
-use Rattle.rules.specs.Object.{Insn, is_call, is_blank, Named, nothing, unclear, Object, is_wide_load, decide, meaning, displacement, calling, referring}
-use Rattle.rules.specs.Link.{State, Refusal, Outcome, linked, refuses, unfinished, visit, append, link}
-use Rattle.rules.specs.Tables.{SymbolKind, other, text, section, Symbol, Function, Relocation, Tables, first, first_row, is_at, row_of, insn_of, row_at, function_at, relocation_at, is_code, slots_on, or_missing, by_symbol, by_symbol_row, by_relocation, named_of, object_of}
+use Rattle.rules.specs.Object.{Insn, is_call, Named, nothing, unclear}
+use Rattle.rules.specs.Link.{State, Refusal, link}
+use Rattle.rules.specs.Tables.{SymbolKind, other, text, section, Symbol, Function, Relocation, Tables, first, first_row, is_at, row_of, insn_of, row_at, function_at, relocation_at, is_code, slots_on, or_missing, by_symbol, by_symbol_row, by_relocation, object_of}
 use Rattle.rules.proofs.Ending.{NamesRow, Finished, never_unfinished}
 
 abbrev Below : ℕ → Option ℕ → Type 0

@@ -1,18 +1,18 @@
 -- No two relocations of valid tables have one slot of table 6, in whatever order a section's are tried.
 -- Assumes nothing.
-use mathlib.Core.Path.{◌≡◌, refl, sym, ◌∙◌, ap, subst}
+use mathlib.Core.Path.{◌≡◌, refl, ◌∙◌, ap}
 use mathlib.Core.Logic.{◌≢◌, ◌⊎◌, inl, inr}
 use mathlib.Core.Bool.{Bool, true, false, cond, ◌&&◌}
 use mathlib.Core.List.Memᴰ
 use mathlib.Core.List.{List, [], ◌∷◌, ◌++◌, map, Memᴰ}
-use Prim.Native.Nat.{ℕ, zero, suc, ◌+◌, ◌*◌, ◌-◌, ◌/◌, ◌%◌, ◌≤◌, ◌<◌}
-use native.Mathlib.Nat.{le_refl, add-suc, add-zero, suc-add}
+use Prim.Native.Nat.{ℕ, zero, suc, ◌+◌, ◌*◌, ◌-◌, ◌%◌, ◌≤◌, ◌<◌}
+use native.Mathlib.Nat.{add-suc, add-zero}
 use native.Mathlib.Omega.{arith}
 use lib.Dec.{eqb, ltb, leb}
-use lib.ListN.{length, get_or}
+use lib.ListN.{get_or}
 use borrow.Author.Tests.{eqb-true, ltb-true, leb-true}
 use Rattle.rules.specs.Tables.{Function, Relocation, Tables, Earlier, RowsRise, no_function, before, row_of, base}
-use Rattle.rules.specs.Maps.{Task, task, only, inside, on_grid, slot_for, task_slot, tasks, place}
+use Rattle.rules.specs.Maps.{Task, task, only, task_slot, tasks, place}
 use Rattle.rules.proofs.MapsInPlace.{Live, Apart}
 
 -- the rows' parts of table 6 stand one after another

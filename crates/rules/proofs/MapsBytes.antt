@@ -1,13 +1,13 @@
 -- The map step's rewriting on bytes, in either byte order: source register, next immediate, last the fd, is `changed` of the decoded slots.
 -- Assumes nothing.
-use mathlib.Core.Path.{◌≡◌, refl, sym, ◌∙◌, ap}
-use mathlib.Core.Option.{Option, none, some}
-use mathlib.Core.List.{List, [], ◌∷◌}
-use Prim.Native.Nat.{ℕ, suc, ◌+◌, ◌*◌, ◌≤◌, ◌<◌}
+use mathlib.Core.Path.{◌≡◌, ◌∙◌, ap}
+use mathlib.Core.Option.{none, some}
+use mathlib.Core.List.{List}
+use Prim.Native.Nat.{ℕ, suc, ◌+◌, ◌*◌, ◌≤◌}
 use native.Mathlib.Omega.{arith}
 use lib.IntN.{ℤ}
 use lib.ListN.{length}
-use Rattle.rules.specs.Bytes.{Order, Fits, half32, decoded, immediate_stored, source_stored, with_immediate, with_source}
+use Rattle.rules.specs.Bytes.{Order, Fits, half32, decoded, immediate_stored, source_stored, with_immediate}
 use Rattle.rules.specs.Maps.{at, changed}
 use Rattle.rules.proofs.Writing.{stored_decoded, bytes_kept, source_decoded, source_kept}
 

@@ -1,14 +1,13 @@
 -- The map step as code does it, checked first and then judged again and rewritten in place, is the map step.
 -- Assumes nothing.
-use mathlib.Core.Path.{◌≡◌, refl, sym, ◌∙◌, ap}
-use mathlib.Core.List.{List, [], ◌∷◌, map}
-use Prim.Native.Nat.{ℕ}
+use mathlib.Core.Path.{◌≡◌, refl, ap}
+use mathlib.Core.List.{List, [], ◌∷◌}
 use lib.Dec.{eqb}
 use lib.ListN.{length}
 use Rattle.rules.specs.Object.{Insn}
-use Rattle.rules.specs.Tables.{Relocation, Tables, row_of}
-use Rattle.rules.specs.Maps.{Task, only, counted, judge, all_tasks, first_refusal, applied, rewrite, rewrite_all, mapped, unless_refused, map_step}
-use Rattle.rules.proofs.InPlace.{rewrite_in_place, applied_in_place, map_step_in_place}
+use Rattle.rules.specs.Tables.{Tables, row_of}
+use Rattle.rules.specs.Maps.{Task, only, counted, judge, all_tasks, applied, rewrite, map_step}
+use Rattle.rules.proofs.InPlace.{applied_in_place, map_step_in_place}
 use Rattle.rules.specs.Tables.{RowsRise}
 use Rattle.rules.proofs.MapsInPlace.{Apart, Kept, kept_refl, judge_same, kept_next, in_place}
 use Rattle.rules.proofs.MapsApart.{rising_distinct, apart_all}

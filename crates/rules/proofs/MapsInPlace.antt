@@ -1,25 +1,25 @@
 -- The map step judged against slots that are partly rewritten gives the same answers as against the slots as they were:
 -- so code may first check everything, and then judge again and rewrite in place.
 -- Assumes nothing.
-use mathlib.Core.Path.{◌≡◌, refl, sym, ◌∙◌, ap, subst}
+use mathlib.Core.Path.{◌≡◌, refl, sym, ◌∙◌, ap}
 use mathlib.Core.Logic.{◌≢◌, ◌⊎◌, inl, inr}
 use mathlib.Core.Bool.{Bool, true, false, cond, ◌&&◌, ◌||◌}
 use mathlib.Core.Option.{Option, none, some}
-use mathlib.Core.List.{List, [], ◌∷◌, ◌++◌, Memᴰ}
-use Prim.Native.Nat.{ℕ, zero, suc, ◌+◌, ◌≤◌, ◌<◌}
+use mathlib.Core.List.{List, [], ◌∷◌, Memᴰ}
+use Prim.Native.Nat.{ℕ, suc, ◌+◌, ◌<◌}
 use native.Mathlib.Nat.{add-suc}
 use native.Mathlib.Omega.{arith}
 use native.Mathlib.Decide.{ℕ_discrete, dec_lt}
-use lib.IntN.{ℤ, pos, negsuc, ◌+ℤ◌}
+use lib.IntN.{ℤ, pos, ◌+ℤ◌}
 use lib.Dec.{eqb, ltb}
-use lib.ListN.{length, set, get_or-eq_default}
+use lib.ListN.{length}
 use lib.Seq.{get_or-set_same, get_or-set_other, set_out}
 use borrow.Author.Tests.{eqb-true, ltb-true}
 use Rattle.rules.specs.Object.{Insn, is_zero, is_call, is_blank}
 use Rattle.rules.specs.Faithful.{blank, slot_at}
 use Rattle.rules.specs.Bytes.{with_immediate, with_source}
 use Rattle.rules.specs.Tables.{SymbolKind, other, text, section, Symbol, MapRow, Tables, row_of, base, is_code}
-use Rattle.rules.specs.Maps.{Task, Change, Verdict, skipped, refused, applies, fits32, inside, on_grid, map_for, by_data, by_map, by_kind, by_home, by_symbol, slot_in, is_wide, symbol_of, task_slot, judge, at, changed, place, rewrite, rewrite_all}
+use Rattle.rules.specs.Maps.{Task, Change, Verdict, skipped, refused, applies, inside, on_grid, map_for, by_data, by_map, by_kind, by_home, by_symbol, slot_in, is_wide, symbol_of, task_slot, judge, at, changed, place, rewrite, rewrite_all}
 use Rattle.rules.proofs.InPlace.{rewrite_in_place}
 
 -- a slot rewritten, and the others

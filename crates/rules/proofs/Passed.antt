@@ -1,19 +1,19 @@
 -- What a table that neither 1 nor 2 refuses is: whole rows, each good, keys rising.
 -- Assumes nothing.
-use mathlib.Core.Path.{◌≡◌, refl, sym, ap, ◌∙◌, subst}
-use mathlib.Core.Logic.{◌⊎◌, inl, inr, ⊎_elim}
+use mathlib.Core.Path.{◌≡◌, refl}
+use mathlib.Core.Logic.{inl, inr, ⊎_elim}
 use mathlib.Core.Bool.{Bool, true, false, cond, not, ◌&&◌, ◌||◌}
 use mathlib.Core.Option.{Option, none, some}
 use mathlib.Core.List.Memᴰ
-use mathlib.Core.List.{List, [], ◌∷◌, Memᴰ}
-use Prim.Native.Nat.{ℕ, zero, suc, ◌+◌, ◌-◌, ◌*◌, ◌/◌, ◌%◌, ◌≤◌, ◌<◌}
+use mathlib.Core.List.{List, Memᴰ}
+use Prim.Native.Nat.{ℕ, zero, suc, ◌+◌, ◌-◌, ◌*◌, ◌%◌, ◌≤◌, ◌<◌}
 use native.Mathlib.Omega.{arith}
-use borrow.Author.Tests.{eqb-true, eqb-false, eq-eqb, ne_eqb, leb-true, ltb-true, ltb-false, lt-ltb, le-ltb, not-true, not-false}
+use borrow.Author.Tests.{eqb-true, eq-eqb, ne_eqb, leb-true, ltb-true, ltb-false, lt-ltb, le-ltb, not-true, not-false}
 use lib.Dec.{eqb, ltb, leb}
 use lib.ListN.{length}
 use Rattle.rules.specs.declared.Table.{Table}
 use Rattle.rules.specs.declared.Table.TheVariants.{Code, Symbols, Functions, Relocations, Maps, Instructions, FuncInfo, LineInfo}
-use Rattle.rules.specs.Rows.{row_size, most_rows, most_section, most_address, most_function_slots, none_number, section_kind, with_data, whole_rows, is_partial, counted_rows, is_too_many, is_good, or_partial, first_from, first_broken, rises, below, rises_pair, is_section, is_section_or_none, is_address, zero_from, same_map, any_from, code_section, symbol_index, symbol_section, symbol_address, symbol_kind, function_section, function_slots, function_address, function_offset, relocation_section, relocation_symbol, relocation_offset, map_section, map_symbol, map_has_data, relocation_row}
+use Rattle.rules.specs.Rows.{row_size, most_rows, most_section, most_address, most_function_slots, none_number, section_kind, with_data, whole_rows, is_partial, is_too_many, is_good, or_partial, first_from, first_broken, rises, below, rises_pair, is_section, is_section_or_none, is_address, zero_from, same_map, any_from, code_section, symbol_index, symbol_section, symbol_address, symbol_kind, function_section, function_slots, function_address, function_offset, relocation_section, relocation_symbol, relocation_offset, map_section, map_has_data, relocation_row}
 use Rattle.rules.specs.Lookups.{Sound, Rising, RisingPair}
 use Rattle.rules.specs.Link.{run}
 use Rattle.rules.specs.Tables.{Relocation, Before, Earlier, RowsRise}

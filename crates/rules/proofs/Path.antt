@@ -1,11 +1,10 @@
 -- Demand 3 for every faithful image.
 -- Assumes nothing.
-use mathlib.Core.Path.{◌≡◌, refl, sym, ◌∙◌, ap, subst}
+use mathlib.Core.Path.{◌≡◌, refl, sym, ◌∙◌, ap}
 use mathlib.Core.Bool.{Bool, true, false, cond, false≢true}
 use mathlib.Core.Option.{Option, none, some, IsSome}
-use mathlib.Core.List.{List, [], ◌∷◌, Memᴰ}
-use Prim.Native.Nat.{ℕ, zero, suc, ◌+◌, ◌≤◌, ◌<◌}
-use native.Mathlib.Nat.{add-zero, zero-add}
+use mathlib.Core.List.{List, Memᴰ}
+use Prim.Native.Nat.{ℕ, ◌+◌, ◌≤◌, ◌<◌}
 use native.Mathlib.Omega.{arith}
 use lib.IntN.{ℤ, pos, negsuc, nat_abs, ◌+ℤ◌, +ℤ_assoc, +ℤ_idr}
 use lib.ListN.{length}
@@ -14,8 +13,8 @@ use borrow.Author.Tests.{ltb-true, lt-ltb}
 use Rattle.rules.specs.declared.Kind.{Kind}
 use Rattle.rules.specs.declared.Kind.TheVariants.{Plain, WideLoad, JumpByOffset, JumpByImmediate, Conditional, CallByte, Exit, Unknown}
 use Rattle.rules.specs.Object.{Insn, is_call, Object, is_wide_load, Meaning, copied, call, reference, refused, meaning, calling, referring}
-use Rattle.rules.specs.Faithful.{Piece, piece, slot_at, Tile, Placed, LinkOf, Linked, Faithful}
-use Rattle.rules.specs.Walk.{Move, by_kind, leads, kind, within, SourcePlace, place, callee_of, in_source, in_image, source_walk, image_walk, standing, stopped, ended, left, Walk}
+use Rattle.rules.specs.Faithful.{Piece, piece, slot_at, LinkOf, Linked, Faithful}
+use Rattle.rules.specs.Walk.{Move, by_kind, leads, kind, SourcePlace, place, callee_of, in_source, in_image, source_walk, image_walk, standing, stopped, ended, left, Walk}
 use Rattle.rules.specs.Together.{Together, SamePlace, RefersTo, ReferencePassed, KeepsPath, both_stand}
 use Rattle.rules.proofs.Simulation.{SameMove, same_goes, same_chooses, same_enters, same_returns, same_stuck, SameSight, outside, inside, walk_together, walk_inside}
 use Rattle.rules.proofs.Tiles.{tile_fits, tile_one}

@@ -1,20 +1,19 @@
 -- The tables' rows meet their bytes here, once: each lookup of the definitions is the lookup by row number that code promises.
 -- Assumes nothing.
-use mathlib.Core.Path.{◌≡◌, refl, sym, ap, ◌∙◌}
-use mathlib.Core.Bool.{Bool, true, false, cond, ◌&&◌}
+use mathlib.Core.Path.{◌≡◌, refl, ap, ◌∙◌}
+use mathlib.Core.Bool.{◌&&◌}
 use mathlib.Core.Option.{Option, none, some}
-use mathlib.Core.List.{List, [], ◌∷◌}
+use mathlib.Core.List.{◌∷◌}
 use Prim.Native.Nat.{ℕ, zero, suc, ◌+◌, ◌*◌, ◌-◌, ◌≤◌, ◌<◌}
 use native.Mathlib.Nat.{zero-add}
 use native.Mathlib.Omega.{arith}
 use lib.IntN.{ℤ}
 use lib.Dec.{eqb}
 use lib.ListN.{length, take, drop}
-use Rattle.rules.specs.declared.Table.{Table}
 use Rattle.rules.specs.declared.Table.TheVariants.{Code, Symbols, Functions, Relocations, Maps, FuncInfo, LineInfo}
 use Rattle.rules.specs.Link.{run}
 use Rattle.rules.specs.Bytes.{Order}
-use Rattle.rules.specs.Tables.{Symbol, Function, Relocation, MapRow, FunctionRecord, LineRecord, Tables, first, first_row, is_some, is_at, no_function, before, row_of, base, function_records_of, lines_of, row_at, is_code, relocation_at}
+use Rattle.rules.specs.Tables.{Function, first, is_some, is_at, no_function, before, row_of, base, function_records_of, lines_of, row_at, is_code, relocation_at}
 use Rattle.rules.specs.Maps as Maps
 use Rattle.rules.specs.Maps.{is_symbol, has_none, map_for}
 use Rattle.rules.specs.Rows.{whole_rows, first_from, summed, Offered, code_section, symbol_row, function_row, function_slots, function_func_info, function_line_info, relocation_row, map_row, func_info_row, line_info_row, tables_of}

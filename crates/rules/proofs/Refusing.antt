@@ -1,12 +1,12 @@
 -- What a check refuses has a number that is not 0; and what passing gives: every table sound, the totals right, the root a row.
 -- Assumes nothing.
-use mathlib.Core.Path.{◌≡◌, refl, sym, ap, ◌∙◌, subst}
+use mathlib.Core.Path.{◌≡◌, refl, ap, ◌∙◌, subst}
 use mathlib.Core.Bool.{Bool, true, false, cond}
 use mathlib.Core.Option.{Option, none, some}
 use mathlib.Core.List.Memᴰ
 use mathlib.Core.List.{List, [], ◌∷◌, Memᴰ}
 use mathlib.Core.Logic.{◌⊎◌, inl, inr, ◌≢◌}
-use Prim.Native.Nat.{ℕ, zero, suc, ◌+◌, ◌*◌, ◌≤◌, ◌<◌}
+use Prim.Native.Nat.{ℕ, ◌*◌, ◌<◌}
 use native.Mathlib.Omega.{arith}
 use borrow.Author.Tests.{eqb-true, ltb-true}
 use lib.Dec.{eqb, ltb}
@@ -15,7 +15,7 @@ use Rattle.rules.specs.declared.Table.{Table}
 use Rattle.rules.specs.declared.Table.TheVariants.{Code, Symbols, Functions, Relocations, Maps, Instructions, FuncInfo, LineInfo}
 use Rattle.rules.specs.Answers.{Reply, reply}
 use Rattle.rules.specs.Rows.{row_size, table_number, whole_rows, is_too_many, Offered, bytes_of, map_step_tables, link_tables, total, too_many, wrong_total, broken_in, or_broken, broken, or_else, no_root, map_step_refusal, link_refusal}
-use Rattle.rules.specs.Lookups.{Sound, Checked, MapChecked, LinkChecked}
+use Rattle.rules.specs.Lookups.{Checked, MapChecked, LinkChecked}
 
 -- a refusal's number is not 0
 abbrev Refuses : Option Reply → Type 0

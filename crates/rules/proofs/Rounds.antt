@@ -2,19 +2,18 @@
 -- Assumes nothing.
 use mathlib.Core.Path.{◌≡◌, refl, sym, ◌∙◌, ap}
 use mathlib.Core.Bool.{Bool, true, false, cond}
-use mathlib.Core.List.{List, [], ◌∷◌, ◌++◌, append-nil}
+use mathlib.Core.List.{List, [], ◌∷◌, ◌++◌}
 use Prim.Native.Nat.{ℕ, zero, suc, ◌+◌, ◌*◌, ◌-◌, ◌/◌, ◌%◌, ◌≤◌, ◌<◌}
 use native.Mathlib.Omega.{arith}
-use native.Mathlib.Nat.{zero-add, add-zero}
-use lib.IntN.{ℤ, pos, negsuc}
+use lib.IntN.{pos, negsuc}
 use lib.Dec.{ltb}
-use borrow.Author.Tests.{lt-ltb, le-ltb, ltb-true, ltb-false}
+use borrow.Author.Tests.{ltb-true, ltb-false}
 use lib.ListN.{length, get_or, take, drop, length-append}
 use lib.Seq.{drop-cons, drop-drop, take-add, take-length}
 use Rattle.rules.specs.Object.{Insn}
-use Rattle.rules.specs.Faithful.{blank, slot_at}
+use Rattle.rules.specs.Faithful.{slot_at}
 use Rattle.rules.specs.Link.{run}
-use Rattle.rules.specs.Bytes.{Order, little, big, number2, number4, byte_at, AreBytes, u16_at, u32_at, bytes2, bytes4, signed, unsigned, Fits, half16, half32, source_of, destination_of, registers, decode, encode, slot_size, slot_in, decoded, encoded}
+use Rattle.rules.specs.Bytes.{Order, little, big, number2, number4, byte_at, AreBytes, u16_at, u32_at, bytes2, bytes4, signed, unsigned, Fits, half16, half32, source_of, destination_of, registers, decode, encode, slot_in, decoded, encoded}
 use Rattle.rules.proofs.Writing.{signed_unsigned, append_decoded}
 
 pub unsigned_signed : (half n : ℕ) → n < half + half → unsigned half (signed half n) ≡ n

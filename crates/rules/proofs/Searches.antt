@@ -2,18 +2,15 @@
 -- Assumes nothing.
 use mathlib.Core.Path.{◌≡◌, refl, sym, ap, ◌∙◌, subst}
 use mathlib.Core.Logic.{◌⊎◌, inl, inr, ⊎_elim}
-use mathlib.Core.Bool.{Bool, true, false, cond, not, ◌&&◌, ◌||◌}
-use mathlib.Core.Option.{Option, none, some}
-use mathlib.Core.List.{List, [], ◌∷◌}
-use Prim.Native.Nat.{ℕ, zero, suc, ◌+◌, ◌-◌, ◌*◌, ◌/◌, ◌%◌, ◌≤◌, ◌<◌}
+use mathlib.Core.Bool.{Bool, true, false, cond}
+use mathlib.Core.Option.{none, some}
+use Prim.Native.Nat.{ℕ, zero, suc, ◌+◌, ◌-◌, ◌*◌, ◌≤◌, ◌<◌}
 use native.Mathlib.Omega.{arith}
-use native.Mathlib.Nat.{mul-suc, not-suc-le-zero, le_of_eq, eq-or-lt_of_le, le_of_suc-le-suc}
+use native.Mathlib.Nat.{mul-suc, not-suc-le-zero, eq-or-lt_of_le, le_of_suc-le-suc}
 use native.Mathlib.Numerals.{add-one}
-use lib.Dec.{eqb, ltb, leb}
-use lib.ListN.{length, get_or}
 use Rattle.rules.specs.Link.{run}
 use Rattle.rules.specs.Tables.{first, first_row, before, Function, Before}
-use Rattle.rules.specs.Rows.{first_from, summed, any_from}
+use Rattle.rules.specs.Rows.{first_from, summed}
 use Rattle.rules.specs.Lookups.{read_row, Rising, RisingPair}
 
 -- ---- a search for the first row that passes, k of n rows looked at

@@ -1,16 +1,13 @@
 -- What the tests on one slot say, and what a displacement adds up to.
 -- Assumes nothing.
-use mathlib.Core.Path.{◌≡◌, refl, sym, ◌∙◌, ap}
-use mathlib.Core.Bool.{Bool, true, false, cond, ◌&&◌, false≢true}
-use mathlib.Core.Option.{Option, none, some}
-use Prim.Native.Nat.{ℕ, zero, suc, ◌+◌}
-use lib.IntN.{ℤ, pos, ◌+ℤ◌, ◌-ℤ◌, +ℤ_comm, +ℤ_assoc, -ℤ-+ℤ_cancel}
-use lib.Dec.{eqb, ltb}
+use mathlib.Core.Path.{◌≡◌, refl, ◌∙◌, ap}
+use mathlib.Core.Bool.{Bool, true, false, cond, ◌&&◌}
+use mathlib.Core.Option.{Option, some}
+use Prim.Native.Nat.{ℕ}
+use lib.IntN.{ℤ, pos, ◌+ℤ◌, ◌-ℤ◌, +ℤ_comm, -ℤ-+ℤ_cancel}
 use borrow.Author.Tests.{eqb-true}
-use Rattle.rules.specs.declared.Kind.{Kind}
-use Rattle.rules.specs.declared.Kind.TheVariants.{Plain, WideLoad, JumpByOffset, JumpByImmediate, Conditional, CallByte, Exit, Unknown}
-use Rattle.rules.specs.Object.{Insn, is_zero, is_call, is_blank, Named, nothing, function, missing, unclear, Object, is_wide_load, Meaning, copied, call, reference, refused, decide, meaning, displacement}
-use Rattle.rules.specs.Walk.{kind, Move, goes, enters, entering, by_kind, leads}
+use Rattle.rules.specs.Object.{Insn, is_call, Named, nothing, function, missing, unclear, Object, is_wide_load, Meaning, copied, call, reference, refused, decide, meaning, displacement}
+use Rattle.rules.specs.Walk.{kind, goes, enters, by_kind, leads}
 
 and_left : (a b : Bool) → a && b ≡ true → a ≡ true
 and_left true b e = refl

@@ -1,14 +1,13 @@
 -- What a splice keeps and what it puts: stated once, over any list.
 -- Assumes nothing.
-use mathlib.Core.Path.{◌≡◌, refl, sym, ap, ◌∙◌, subst}
+use mathlib.Core.Path.{◌≡◌, sym, ap, ◌∙◌, subst}
 use mathlib.Core.List.{List, [], ◌∷◌, ◌++◌, append_assoc, append-nil}
-use Prim.Native.Nat.{ℕ, zero, suc, ◌+◌, ◌-◌, ◌*◌, ◌/◌, ◌%◌, ◌≤◌, ◌<◌, ◌^◌}
+use Prim.Native.Nat.{ℕ, zero, suc, ◌+◌, ◌-◌, ◌≤◌, ◌<◌}
 use native.Mathlib.Omega.{arith}
-use native.Mathlib.Nat.{add-zero}
 use native.Mathlib.Numerals.{add-one}
-use lib.ListN.{length, replicate, get_or, take, drop, set, length-append, length-take, length-drop, length-replicate, get_or-append}
-use lib.Seq.{take-nil, drop-drop, take-take, take-append-add, drop-length, length-take-le, get_or-append-add, get_or-take, get_or-drop, take_at, drop_at, sets, sets-eq, paste, paste-suc}
-use Rattle.rules.specs.Bytes.{splice, zero_after, padded}
+use lib.ListN.{length, replicate, get_or, take, drop, set, length-append, length-drop, get_or-append}
+use lib.Seq.{take-nil, drop-drop, take-take, take-append-add, drop-length, length-take-le, get_or-append-add, get_or-take, get_or-drop, take_at, drop_at, sets-eq, paste, paste-suc}
+use Rattle.rules.specs.Bytes.{splice, zero_after}
 
 -- a part's part
 drop_take : (k n : ℕ) (d : List ℕ) → k ≤ n → drop k (take n d) ≡ take (n - k) (drop k d)

@@ -1,13 +1,12 @@
 -- W1's two promises over the bytes offered: what the examiner says yes to keeps the path, whoever made it; and it says yes to what we link,
 -- with the list that we give.
 -- Assumes nothing.
-use mathlib.Core.Path.{◌≡◌, refl, sym, ap, subst, ◌∙◌}
-use mathlib.Core.Bool.{Bool, true, false, cond}
+use mathlib.Core.Path.{◌≡◌, sym, ap, subst, ◌∙◌}
+use mathlib.Core.Bool.{cond}
 use mathlib.Core.List.{List}
 use Prim.Native.Nat.{ℕ, ◌*◌, ◌/◌, ◌≤◌}
 use native.Mathlib.Omega.{arith}
 use borrow.Author.Tests.{le-ltb}
-use lib.Dec.{ltb}
 use lib.ListN.{length, take, length-take}
 use Rattle.rules.specs.Faithful.{Piece}
 use Rattle.rules.specs.Bytes.{Order, AreBytes}
@@ -16,7 +15,7 @@ use Rattle.rules.specs.Rows.{Offered}
 use Rattle.rules.specs.Entries.{Outputs, LinkResult, link_entry, link_list, list_room, list_refused, PiecesResult, link_pieces_entry}
 use Rattle.rules.specs.Pieces.{piece_size, list_rows, pieces_bytes}
 use Rattle.rules.specs.Examine.{Shown, shown, verdict, examine_entry}
-use Rattle.rules.specs.Demand3.{used_image, used_func_info, used_line_info, used_pieces, shown_of, ShownKept}
+use Rattle.rules.specs.Demand3.{used_image, used_func_info, used_line_info, shown_of, ShownKept}
 use Rattle.rules.proofs.Demand3.{front}
 use Rattle.rules.proofs.RowBytes.{pieces_length}
 use Rattle.rules.proofs.Examining.{examined_means, yes_means}

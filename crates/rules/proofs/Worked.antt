@@ -1,10 +1,10 @@
 -- Document 01's worked objects marked P, from table bytes to the bytes of every output, and the counts of the kinds: computed.
 -- Assumes nothing.
 use mathlib.Core.Path.{◌≡◌, refl}
-use mathlib.Core.Bool.{Bool, true, false, cond}
-use mathlib.Core.List.{List, [], ◌∷◌, ◌++◌, map}
+use mathlib.Core.Bool.{Bool, true, false}
+use mathlib.Core.List.{List, [], ◌∷◌, ◌++◌}
 use Prim.Native.Nat.{ℕ, zero, suc, ◌+◌, ◌*◌, ◌/◌, ◌%◌}
-use lib.IntN.{ℤ, pos, negsuc}
+use lib.IntN.{ℤ, pos}
 use lib.ListN.{length, replicate}
 use Rattle.rules.specs.declared.Table.TheVariants.{FuncInfo, LineInfo}
 use Rattle.rules.specs.declared.Kind.{Kind}
@@ -16,10 +16,10 @@ use Rattle.rules.specs.Answers.{Reply, reply}
 use Rattle.rules.specs.Tables.{object_of}
 use Rattle.rules.specs.Records.{image_functions, image_lines, room_for, stray_line, admits, link_step}
 use Rattle.rules.specs.Maps.{judge, first_refusal, applied, rewrite_all, map_step}
-use Rattle.rules.specs.Rows.{none_number, Offered, code_section, symbol_index, symbol_section, symbol_address, symbol_kind, function_section, function_slots, function_address, function_offset, function_func_info, function_line_info, relocation_section, relocation_symbol, relocation_offset, relocation_size, map_section, map_symbol, map_fd, map_has_data, record_slot, record_type, record_file, record_line, record_column, is_good, first_broken, total, too_many, broken_in, broken, map_step_refusal, link_refusal, tables_of}
+use Rattle.rules.specs.Rows.{Offered, code_section, symbol_index, symbol_section, symbol_address, symbol_kind, function_section, function_slots, function_address, function_offset, function_func_info, function_line_info, relocation_section, relocation_symbol, relocation_offset, relocation_size, map_section, map_symbol, map_fd, map_has_data, record_slot, record_type, record_file, record_line, record_column, is_good, first_broken, total, too_many, broken_in, broken, map_step_refusal, link_refusal, tables_of}
 use Rattle.rules.specs.Entries.{MapResult, map_entry, Outputs, LinkResult, link_entry}
 use Rattle.rules.specs.Readers.{Info, is_whole, Read, read_records, record_part, record_reply}
-use Rattle.rules.specs.Walk.{kind, leads, in_source, in_image, Walk, standing, stopped, ended, left, SourcePlace, place, source_walk, image_walk}
+use Rattle.rules.specs.Walk.{kind, leads, in_source, in_image, Walk, standing, stopped, ended, left, place, source_walk, image_walk}
 
 -- ---- rows as bytes
 

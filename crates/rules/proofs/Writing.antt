@@ -1,22 +1,22 @@
 -- To store an immediate's bytes is to rewrite that slot, and no other.
 -- Assumes nothing.
-use mathlib.Core.Path.{◌≡◌, refl, sym, ◌∙◌, ap, subst}
-use mathlib.Core.Logic.{◌≢◌, ◌⊎◌, inl, inr}
+use mathlib.Core.Path.{◌≡◌, refl, sym, ◌∙◌, ap}
+use mathlib.Core.Logic.{◌≢◌}
 use mathlib.Core.Bool.{Bool, true, false, cond}
 use mathlib.Core.List.{List, [], ◌∷◌, ◌++◌}
-use Prim.Native.Nat.{ℕ, zero, suc, ◌+◌, ◌*◌, ◌-◌, ◌/◌, ◌%◌, ◌≤◌, ◌<◌}
+use Prim.Native.Nat.{ℕ, zero, suc, ◌+◌, ◌*◌, ◌-◌, ◌/◌, ◌≤◌, ◌<◌}
 use native.Mathlib.Omega.{arith}
 use native.Mathlib.Decide.{ℕ_discrete, dec_lt}
 use native.Mathlib.Nat.{zero-add, add-zero, add_assoc}
 use lib.IntN.{ℤ, pos, negsuc, neg_ℤ, sub_ℕ, ◌+ℤ◌, +ℤ_assoc}
 use lib.Dec.{ltb}
 use borrow.Author.Tests.{lt-ltb, le-ltb}
-use lib.ListN.{length, take, drop, length-take, length-drop, get_or, set, length-set, length-append, get_or-append}
+use lib.ListN.{length, take, drop, length-take, length-drop, set, length-set, length-append, get_or-append}
 use lib.Seq.{get_or-take, get_or-drop, get_or-append-add, get_or-set_same, get_or-set_other, set-set, ext_get_or}
 use Rattle.rules.specs.Object.{Insn, displacement, calling, referring}
 use Rattle.rules.specs.Faithful.{blank, slot_at}
 use Rattle.rules.specs.Link.{run}
-use Rattle.rules.specs.Bytes.{Order, little, big, number2, number4, signed, unsigned, Fits, half32, byte_at, u16_at, u32_at, bytes4, decode, decoded, slot_in, slot_size, splice, immediate_stored, with_immediate, source_of, destination_of, registers, source_stored, with_source}
+use Rattle.rules.specs.Bytes.{Order, little, big, signed, unsigned, Fits, half32, byte_at, u16_at, u32_at, bytes4, decode, decoded, splice, immediate_stored, with_immediate, source_of, destination_of, registers, source_stored, with_source}
 use Rattle.rules.proofs.Splices.{splice_length, splice_before, splice_in, splice_past}
 use Rattle.rules.proofs.Linking.{length_run, run_at}
 

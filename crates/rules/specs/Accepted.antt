@@ -5,13 +5,12 @@ use Rattle.std.specs.Prelude.{◌≡◌, ℕ, ◌-◌, ◌*◌, ◌%◌, ◌≤�
 use Rattle.std.proofs.Math.Option.{none}
 use mathlib.Core.List.{List, ◌∷◌, Memᴰ}
 use Rattle.rules.specs.declared.Table.TheVariants.{Instructions, FuncInfo, LineInfo}
-use Rattle.rules.specs.Object.{Object}
 use Rattle.rules.specs.Faithful.{Piece, piece, Faithful}
 use Rattle.rules.specs.Bytes.{Order}
 use Rattle.rules.specs.Tables.{LineRecord, Tables, row_of, lines_of, object_of}
 use Rattle.rules.specs.Records.{first_slot, image_functions, image_lines}
 use Rattle.rules.specs.Rows.{row_size, most_image_slots, most_image_functions, most_image_lines, Offered, link_refusal, tables_of}
-use Rattle.rules.specs.Pieces.{piece_size, pieces_of}
+use Rattle.rules.specs.Pieces.{piece_size}
 use Rattle.rules.specs.Examine.{Shown, Claim, claim_of}
 
 -- whole rows, and no more than that many

@@ -1,7 +1,7 @@
 -- Numbers in bytes, and a slot's eight bytes as fields and back (RFC 9669, section 3.1), in either byte order.
 -- A place past the end of the bytes reads as 0.
 -- Assumes nothing.
-use Rattle.std.specs.Prelude.{Bool, true, false, cond, List, [], ◌∷◌, ◌++◌, ℕ, zero, suc, ◌+◌, ◌*◌, ◌-◌, ◌/◌, ◌%◌, ◌<◌, ℤ, pos, negsuc, ltb, length, get_or, take, drop, replicate}
+use Rattle.std.specs.Prelude.{cond, List, [], ◌∷◌, ◌++◌, ℕ, suc, ◌+◌, ◌*◌, ◌-◌, ◌/◌, ◌%◌, ◌<◌, ℤ, pos, negsuc, ltb, length, get_or, take, drop, replicate}
 use Rattle.rules.specs.Object.{Insn}
 use Rattle.rules.specs.Link.{run}
 

@@ -1,9 +1,9 @@
 -- Demand 3, "Linking keeps the path", of an accepted link, over the bytes that the entry reads and writes.
 -- Assumes nothing.
-use Rattle.std.specs.Prelude.{◌≡◌, ◌≢◌, Bool, true, false, List, [], ◌∷◌, ℕ, ◌+◌, ◌*◌, ◌<◌, pos, length, get_or, take}
-use Rattle.std.proofs.Math.Option.{Option, none, some}
+use Rattle.std.specs.Prelude.{◌≡◌, Bool, true, List, ◌∷◌, ℕ, ◌*◌, pos, length, get_or, take}
+use Rattle.std.proofs.Math.Option.{some}
 use Rattle.rules.specs.declared.Table.TheVariants.{Instructions, FuncInfo, LineInfo}
-use Rattle.rules.specs.Object.{Object, is_call, is_wide_load, Meaning, call, reference, meaning}
+use Rattle.rules.specs.Object.{Object, is_call, is_wide_load, call, reference, meaning}
 use Rattle.rules.specs.Faithful.{Piece, piece, Faithful}
 use Rattle.rules.specs.Walk.{standing, SourcePlace, place, source_walk}
 use Rattle.rules.specs.Together.{KeepsPath}

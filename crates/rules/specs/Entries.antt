@@ -1,13 +1,12 @@
 -- The two steps as the daemon calls them: from the bytes offered to the number, the places and what every lent buffer then holds.
 -- Assumes nothing.
-use Rattle.std.specs.Prelude.{Bool, true, false, cond, List, [], ◌∷◌, ◌++◌, ℕ, zero, suc, ◌+◌, ◌*◌, ◌/◌, min, ltb, length}
+use Rattle.std.specs.Prelude.{cond, List, [], ◌∷◌, ◌++◌, ℕ, suc, ◌*◌, ◌/◌, min, ltb, length}
 use Rattle.std.proofs.Math.Option.{Option, none, some}
-use Rattle.rules.specs.declared.Table.{Table}
 use Rattle.rules.specs.declared.Table.TheVariants.{Functions, Instructions, FuncInfo, LineInfo}
 use Rattle.rules.specs.Object.{Insn}
 use Rattle.rules.specs.Faithful.{Piece, piece}
 use Rattle.rules.specs.Bytes.{Order, bytes4, encoded, padded}
-use Rattle.rules.specs.Link.{State, Refusal, Outcome, linked, refuses, unfinished}
+use Rattle.rules.specs.Link.{Refusal, Outcome, linked, refuses, unfinished}
 use Rattle.rules.specs.Tables.{FunctionRecord, LineRecord, Tables}
 use Rattle.rules.specs.Maps as Maps
 use Rattle.rules.specs.Maps.{MapOutcome, mapped, map_step}

@@ -2,7 +2,7 @@
 -- (function row and start)". What is wrong first, if anything is, in this order: the tables and the root, by the link's own 1, 2 and 13; the
 -- sizes of what is shown; the pieces; then, piece by piece, its slots and its records; then records that are over. Executable.
 -- Assumes nothing.
-use Rattle.std.specs.Prelude.{Bool, true, false, cond, ◌&&◌, ◌||◌, List, [], ◌∷◌, map, ℕ, zero, suc, ◌+◌, ◌*◌, ◌/◌, ◌%◌, ℤ, pos, negsuc, ◌+ℤ◌, eqb, leb, ltb, length, get_or}
+use Rattle.std.specs.Prelude.{Bool, false, cond, ◌&&◌, ◌||◌, List, [], ◌∷◌, map, ℕ, zero, suc, ◌+◌, ◌*◌, ◌/◌, ◌%◌, ℤ, pos, negsuc, ◌+ℤ◌, eqb, leb, ltb, length, get_or}
 use Rattle.std.proofs.Math.Option.{Option, none, some}
 use Rattle.rules.specs.declared.Table.TheVariants.{Instructions, FuncInfo, LineInfo}
 use Rattle.rules.specs.Object.{Insn, Object, Meaning, copied, call, reference, refused, meaning}

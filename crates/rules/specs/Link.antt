@@ -1,6 +1,6 @@
 -- "Link step" (kernel page on BPF LLVM relocations): append and visit, depth first, slot by slot. Executable.
 -- Assumes nothing.
-use Rattle.std.specs.Prelude.{Bool, true, false, cond, not, List, [], ◌∷◌, ◌++◌, ℕ, zero, suc, ◌+◌, ltb, eqb, length, set}
+use Rattle.std.specs.Prelude.{cond, List, [], ◌∷◌, ◌++◌, ℕ, zero, suc, ◌+◌, eqb, length, set}
 use Rattle.std.proofs.Math.Option.{Option, none, some}
 use Rattle.rules.specs.Object.{Insn, Object, Meaning, copied, call, reference, refused, meaning, calling, referring}
 use Rattle.rules.specs.Faithful.{Piece, piece, slot_at}

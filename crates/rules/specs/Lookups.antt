@@ -1,6 +1,6 @@
 -- The lookups of document 01 over the tables' bytes, by row number: what a search of a checked table answers.
 -- Assumes nothing.
-use Rattle.std.specs.Prelude.{◌≡◌, Bool, true, false, cond, not, ◌&&◌, ◌||◌, List, ℕ, ◌*◌, ◌<◌, ℤ, eqb, length}
+use Rattle.std.specs.Prelude.{◌≡◌, Bool, false, not, ◌&&◌, List, ℕ, ◌*◌, ◌<◌, ℤ, eqb, length}
 use Rattle.std.proofs.Math.Option.{Option, none, some}
 use Rattle.rules.specs.declared.Table.{Table}
 use Rattle.rules.specs.declared.Table.TheVariants.{Code, Symbols, Functions, Relocations, Maps, Instructions, FuncInfo, LineInfo}
@@ -8,7 +8,7 @@ use Rattle.rules.specs.declared.Found.{Found}
 use Rattle.rules.specs.declared.Found.TheVariants.{At, Nothing}
 use Rattle.rules.specs.Tables.{is_at, is_some, Before}
 use Rattle.rules.specs.Maps.{is_symbol, has_none}
-use Rattle.rules.specs.Rows.{row_size, Offered, total, below, whole_rows, is_too_many, first_broken, first_from, code_section, symbol_index, function_section, function_address, relocation_section, relocation_offset, map_section, map_symbol, or_none, none_number}
+use Rattle.rules.specs.Rows.{row_size, Offered, total, below, whole_rows, is_too_many, first_broken, first_from, code_section, symbol_index, function_section, function_address, relocation_section, relocation_offset, map_section, map_symbol, or_none}
 
 abbrev pub found_of : Option ℕ → Found
 found_of none = Nothing

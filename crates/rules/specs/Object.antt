@@ -1,6 +1,6 @@
 -- An object with its tables read: what the link step and the walks see of it. No bytes, no byte order, no lookups.
 -- Assumes nothing.
-use Rattle.std.specs.Prelude.{Bool, true, false, ◌&&◌, ℕ, zero, suc, ◌+◌, ℤ, pos, negsuc, ◌-ℤ◌, ltb, eqb}
+use Rattle.std.specs.Prelude.{Bool, true, false, ◌&&◌, ℕ, suc, ℤ, pos, negsuc, ◌-ℤ◌, ltb, eqb}
 
 -- one slot, decoded
 pub record Insn : Type 0 where

@@ -1,6 +1,6 @@
 -- The records of an image (document 01): the root's unchanged, then those of each piece, in order. And what stands against adding a function.
 -- Assumes nothing.
-use Rattle.std.specs.Prelude.{Bool, true, false, cond, ◌&&◌, List, [], ◌∷◌, ◌++◌, map, ℕ, zero, suc, ◌+◌, ◌-◌, leb, ltb, length}
+use Rattle.std.specs.Prelude.{cond, ◌&&◌, List, [], ◌∷◌, ◌++◌, map, ℕ, suc, ◌+◌, ◌-◌, leb, ltb, length}
 use Rattle.std.proofs.Math.Option.{Option, none, some}
 use Rattle.rules.specs.Faithful.{Piece}
 use Rattle.rules.specs.Link.{State, Refusal, refusal, Outcome, link}

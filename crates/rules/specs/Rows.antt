@@ -1,13 +1,13 @@
 -- "The eight tables": sizes, limits, fields, when a row is broken, the totals, and the order of the refusals 1, 2 and 13.
 -- Assumes nothing.
-use Rattle.std.specs.Prelude.{Bool, true, false, cond, not, ◌&&◌, ◌||◌, List, [], ◌∷◌, ◌++◌, ℕ, zero, suc, ◌+◌, ◌-◌, ◌*◌, ◌/◌, ◌%◌, ℤ, eqb, leb, ltb, length, get_or, take, drop}
+use Rattle.std.specs.Prelude.{Bool, true, false, cond, not, ◌&&◌, ◌||◌, List, [], ◌∷◌, ℕ, zero, suc, ◌+◌, ◌-◌, ◌*◌, ◌/◌, ◌%◌, ℤ, eqb, leb, ltb, length, take, drop}
 use Rattle.std.proofs.Math.Option.{Option, none, some}
 use Rattle.rules.specs.declared.Table.{Table}
 use Rattle.rules.specs.declared.Table.TheVariants.{Code, Symbols, Functions, Relocations, Maps, Instructions, FuncInfo, LineInfo}
 use Rattle.rules.specs.Link.{run}
 use Rattle.rules.specs.Bytes.{Order, little, slot_size, byte_at, u32_at, u64_at, signed, half32, decoded}
 use Rattle.rules.specs.Answers.{Reply, reply}
-use Rattle.rules.specs.Tables.{SymbolKind, other, text, section, Symbol, Function, Relocation, MapRow, FunctionRecord, LineRecord, Tables, before}
+use Rattle.rules.specs.Tables.{SymbolKind, other, text, section, Symbol, Function, Relocation, MapRow, FunctionRecord, LineRecord, Tables}
 
 -- ---- sizes and limits, named once
 

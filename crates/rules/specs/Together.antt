@@ -1,9 +1,9 @@
 -- Demand 3: what it means that two walks go together.
 -- Assumes nothing.
 use Rattle.std.specs.Prelude.{◌≡◌, Bool, ℕ, ◌<◌, ℤ, pos, ◌+ℤ◌}
-use mathlib.Core.List.{List, [], ◌∷◌, Memᴰ}
+use mathlib.Core.List.{List, [], ◌∷◌}
 use Rattle.rules.specs.Object.{Insn, Object, meaning, reference}
-use Rattle.rules.specs.Faithful.{Piece, piece, Placed, slot_at}
+use Rattle.rules.specs.Faithful.{Piece, Placed, slot_at}
 use Rattle.rules.specs.Walk.{Walk, standing, stopped, ended, left, SourcePlace, source_walk, image_walk, place}
 
 -- frame by frame, so at equal depth

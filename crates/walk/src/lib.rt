@@ -1,5 +1,6 @@
 // The two walks of demand 3: where a slot leads, and a walk's steps.
 #![tactic(auto)]
+
 ghost use Rattle.std.specs.Prelude.{◌≡◌, ◌+◌, ◌*◌, ◌≤◌, ◌<◌, pos, ◌+ℤ◌, length};
 ghost use Rattle.rules.specs.Bytes.{little, slot_in, slot_size};
 ghost use Rattle.rules.specs.Lookups.{found_of};

@@ -1,6 +1,5 @@
 -- The invariant: the bytes that are left decide the answer.
 use mathlib.Core.Path.{sym, ◌∙◌}
-use Prim.Native.Nat.{◌-◌}
 use native.Mathlib.Omega.{arith}
 use Rattle.wire.proofs.Zeros.{zero_step, zero_stop}
 use Rattle.wire.proofs.all_zero.Goals as goal

@@ -1,7 +1,7 @@
 -- The invariant: what is written is a paste of the first i bytes; n of them are the splice.
 use mathlib.Core.Path.{◌≡◌, ap, ◌∙◌}
 use mathlib.Core.List.{List}
-use Prim.Native.Nat.{ℕ, ◌+◌, ◌-◌}
+use Prim.Native.Nat.{ℕ, ◌+◌}
 use native.Mathlib.Omega.{arith}
 use lib.ListN.{drop, get_or, set, length-set, length-drop}
 use lib.Seq.{paste}

@@ -1,0 +1,63 @@
+-- The slot of table 6 that is read is the row's, its end the row's end, and its relocation the one that is found.
+use mathlib.Core.Path.{◌≡◌, sym, ap, ◌∙◌, subst}
+use mathlib.Core.Bool.{Bool}
+use Prim.Native.Nat.{ℕ, ◌+◌}
+use native.Mathlib.Omega.{arith}
+use Rattle.rules.specs.Object.{is_call, decide}
+use Rattle.rules.specs.Bytes.{little, slot_in}
+use Rattle.rules.specs.Tables.{by_relocation}
+use Rattle.rules.specs.Rows.{tables_of, function_slots, function_row, relocation_row}
+use Rattle.rules.specs.Lent.{offered_code}
+use Rattle.rules.specs.Lookups.{read_row}
+use Rattle.insn.specs.Wide.{wide_load_in}
+use Rattle.resolve.specs.Means.{named_of, Means, option_of}
+use Rattle.resolve.proofs.Slots.{slots_low, first_low, end_inside, rel_within, meaning_is}
+use Rattle.resolve.proofs.resolve.Goals.{After-after-end}
+use Rattle.resolve.proofs.resolve.Goals as goal
+
+at_is : (e : After-after-end) → e.after-at.result.0 ≡ e.args.first.0 + e.args.slot.0
+at_is e = e.after-at.ensures
+
+end_is : (e : After-after-end) → e.after-end.result.0 ≡ e.args.first.0 + function_slots e.args.functions.now e.args.row
+end_is e = e.after-end.ensures ∙ ap (λ (n : ℕ). e.args.first.0 + n) e.function_slots-slots.ensures
+
+pub after-at-requires : goal.after-at-requires
+after-at-requires c =
+    omega (arith, first_low c.requires, slots_low c.requires, c.requires.slot_inside)
+
+pub after-end-requires : goal.after-end-requires
+after-end-requires c =
+    omega (arith, first_low c.requires, slots_low c.requires, c.function_slots-slots.ensures)
+
+pub by_relocation-named-requires : goal.by_relocation-named-requires
+by_relocation-named-requires c =
+    record {
+      tables = c.requires.tables;
+      row_inside = c.requires.row_inside;
+      slot_inside = omega (arith, end_inside c.requires, c.requires.slot_inside, at_is c);
+      rel_inside = rel_within c.requires;
+    }
+
+pub insn_is_call-requires : goal.insn_is_call-requires
+insn_is_call-requires c =
+    omega (arith, end_inside c.requires, c.requires.slot_inside, at_is (goal.at.insn_is_call-requires c).After-after-end)
+
+pub is_wide_load-requires : goal.is_wide_load-requires
+is_wide_load-requires c =
+    (omega (arith, c.requires.slot_inside, at_is (goal.at.is_wide_load-requires c).After-after-end, end_is (goal.at.is_wide_load-requires c).After-after-end), omega (arith, end_inside c.requires, end_is (goal.at.is_wide_load-requires c).After-after-end))
+
+pub returns : goal.returns
+returns c =
+    let a = c.args in
+    let here = a.first.0 + a.slot.0 in
+    subst (Means a.row a.slot.0 c.decide.result)
+    (ap (λ (b : Bool). decide b c.is_wide_load.result (named_of c.by_relocation-named.result))
+    (c.insn_is_call.ensures ∙ ap (λ (k : ℕ). is_call (slot_in little a.instructions.now k)) (at_is (goal.at.returns c).After-after-end))
+    ∙ ap (λ (b : Bool). decide (is_call (slot_in little a.instructions.now here)) b (named_of c.by_relocation-named.result))
+    (c.is_wide_load.ensures ∙ ap (λ (k : ℕ). wide_load_in a.instructions.now k c.after-end.result.0) (at_is (goal.at.returns c).After-after-end) ∙ ap (wide_load_in a.instructions.now here) (end_is (goal.at.returns c).After-after-end))
+    ∙ ap (decide (is_call (slot_in little a.instructions.now here)) (wide_load_in a.instructions.now here (a.first.0 + function_slots a.functions.now a.row)))
+    (c.by_relocation-named.ensures
+    ∙ ap (λ (k : ℕ). by_relocation (tables_of little (offered_code a.code.now a.symbols.now a.functions.now a.relocations.now a.instructions.now))
+    (read_row (relocation_row a.relocations.now) (option_of a.rel)) (function_row a.functions.now a.row) a.slot.0 (slot_in little a.instructions.now k)) (at_is (goal.at.returns c).After-after-end))
+    ∙ sym (meaning_is c.requires))
+    c.decide.ensures
