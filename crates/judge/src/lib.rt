@@ -1,5 +1,6 @@
 // One relocation tried in one function: skipped, refused, or how its slot is to be rewritten.
 #![tactic(auto)]
+
 ghost use Rattle.std.specs.Prelude.{◌≡◌, ◌<◌, ◌^◌};
 ghost use Rattle.rules.specs.declared.Table.TheVariants.{Symbols, Maps};
 ghost use Rattle.rules.specs.Rows.{whole_rows};

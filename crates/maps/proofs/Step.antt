@@ -7,12 +7,11 @@ use Prim.Native.Nat.{ℕ}
 use native.Mathlib.Omega.{arith}
 use Rattle.rules.specs.declared.Answer.{Answer}
 use Rattle.rules.specs.declared.Answer.TheVariants.{Done, Refused}
-use Rattle.rules.specs.declared.Places.{Places}
 use Rattle.rules.specs.declared.Refusal as told
 use Rattle.rules.specs.declared.Table.TheVariants.{Instructions}
 use Rattle.rules.specs.Link.{Refusal}
 use Rattle.rules.specs.Bytes.{little, encoded, AreBytes}
-use Rattle.rules.specs.Answers.{Reply, refused_reply, reply}
+use Rattle.rules.specs.Answers.{refused_reply, reply}
 use Rattle.rules.specs.Maps.{MapOutcome, mapped, all_tasks, first_refusal, unless_refused, map_step}
 use Rattle.rules.specs.Rows.{Offered, total, tables_of, map_step_refusal}
 use Rattle.rules.specs.Lookups.{MapChecked}

@@ -1,5 +1,6 @@
 // The map step: every relocation of every function judged, then all that apply rewritten in place.
 #![tactic(auto)]
+
 ghost use Rattle.std.specs.Prelude.{◌≡◌, suc, ◌+◌, ◌*◌, ◌≤◌, ◌<◌, ◌^◌, length};
 ghost use Rattle.std.proofs.Math.Option.{none, some};
 ghost use Rattle.rules.specs.declared.Table.TheVariants.{Functions, Relocations};
