@@ -1,5 +1,6 @@
 // Instruction slots: where they are, where they lead, and their fields, read and stored in place.
 #![tactic(auto)]
+
 ghost use Rattle.std.specs.Prelude.{◌≡◌, ◌+◌, ◌*◌, ◌%◌, ◌≤◌, ◌<◌, ◌^◌, eqb, pos, ◌+ℤ◌, length};
 ghost use Rattle.rules.specs.Bytes.{little, slot_in, slot_size, immediate_stored, source_stored};
 ghost use Rattle.rules.specs.Object.{is_call, is_blank};

@@ -1,6 +1,6 @@
 -- A link whose tables were checked meets what is asked of each of its rows.
 -- Assumes nothing.
-use Prim.Native.Nat.{ℕ, ◌≤◌, ◌<◌}
+use Prim.Native.Nat.{ℕ, ◌<◌}
 use native.Mathlib.Omega.{arith}
 use Rattle.rules.specs.declared.Table.TheVariants.{Functions, Instructions, FuncInfo, LineInfo}
 use Rattle.rules.specs.Rows.{whole_rows, Offered, function_slots, function_func_info, function_line_info, total}

@@ -1,5 +1,6 @@
 // One function added to an image: room, line records that stray, copies of slots and records.
 #![tactic(auto)]
+
 ghost use Rattle.std.specs.Prelude.{◌≡◌, map, ◌+◌, ◌*◌, ◌/◌, ◌≤◌, ◌<◌, min, leb, length, take, drop};
 ghost use Rattle.rules.specs.declared.Table.TheVariants.{Functions, FuncInfo, LineInfo};
 ghost use Rattle.rules.specs.Bytes.{little, splice};

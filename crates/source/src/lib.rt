@@ -1,5 +1,6 @@
 // The source walk of demand 3: over the functions of the tables, each callee found by section and address.
 #![tactic(auto)]
+
 ghost use Rattle.std.specs.Prelude.{◌≡◌, ◌<◌, pos};
 ghost use Rattle.rules.specs.declared.Table.TheVariants.{Functions};
 ghost use Rattle.rules.specs.Answers.{refusal_in};

@@ -1,6 +1,5 @@
 -- The invariant: the output holds the first k records, each with the start as its slot.
 use mathlib.Core.Path.{◌≡◌, refl, ◌∙◌}
-use Prim.Native.Nat.{◌-◌}
 use native.Mathlib.Omega.{arith}
 use Rattle.merge.proofs.Linked.{funcs_none, funcs_all, func_turn}
 use Rattle.merge.proofs.link_func_info.Goals as goal

@@ -1,7 +1,7 @@
 -- The invariant: the output holds the first k records, each moved by the same way as the first one, which goes to the start.
 use mathlib.Core.Path.{◌≡◌, refl, sym, ap, ◌∙◌}
 use mathlib.Core.List.{List}
-use Prim.Native.Nat.{ℕ, ◌+◌, ◌-◌, ◌*◌}
+use Prim.Native.Nat.{ℕ, ◌+◌, ◌*◌}
 use native.Mathlib.Omega.{arith}
 use Rattle.rules.specs.Bytes.{splice}
 use Rattle.merge.specs.Merge.{pair_bytes}

@@ -1,5 +1,4 @@
 -- The invariant: what was added up is the sum over the first k rows, which is at most the sum over all rows before this one.
-use Prim.Native.Nat.{◌-◌}
 use native.Mathlib.Omega.{arith}
 use Rattle.rules.specs.Rows.{function_slots, function_func_info, function_line_info}
 use Rattle.rules.proofs.Searches.{summed_step, part_inside}

@@ -1,6 +1,6 @@
 -- The invariant: no record before record k strays, so that the search from there gives what was asked.
 use mathlib.Core.Path.{◌∙◌}
-use Prim.Native.Nat.{ℕ, ◌-◌}
+use Prim.Native.Nat.{ℕ}
 use native.Mathlib.Omega.{arith}
 use Rattle.rules.specs.Bytes.{little}
 use Rattle.rules.specs.Tables.{LineRecord}

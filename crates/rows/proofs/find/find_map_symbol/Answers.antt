@@ -1,6 +1,5 @@
 -- The invariant: the rows that are left give the map.
 use mathlib.Core.Path.{sym, ap, ◌∙◌}
-use Prim.Native.Nat.{◌-◌}
 use native.Mathlib.Omega.{arith}
 use Rattle.rules.specs.Lookups.{found_of, map_with_symbol}
 use Rattle.rows.proofs.Scan.{scan_on, scan_hit, scan_end}

@@ -1,6 +1,5 @@
 -- The invariant: the rows that are left give the symbol.
 use mathlib.Core.Path.{sym, ap, ◌∙◌}
-use Prim.Native.Nat.{◌-◌}
 use native.Mathlib.Omega.{arith}
 use borrow.Author.Tests.{eq-eqb, ne_eqb}
 use Rattle.rules.specs.Lookups.{found_of, symbol_with}

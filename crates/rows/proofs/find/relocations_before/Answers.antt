@@ -1,6 +1,5 @@
 -- The invariant: the rows above `low` are before the place, those from `high` on are not. Where they meet is the bound.
 use mathlib.Core.Path.{sym, ◌∙◌}
-use Prim.Native.Nat.{◌-◌}
 use native.Mathlib.Omega.{arith}
 use Rattle.rows.proofs.Bound.{from_below, from_above, met}
 use Rattle.rows.proofs.find.relocations_before.Goals as goal

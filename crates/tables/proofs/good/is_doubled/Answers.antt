@@ -1,6 +1,5 @@
 -- No row passed is doubled with row k: what is left of the rows below k says it all.
 use mathlib.Core.Path.{sym, ◌∙◌}
-use Prim.Native.Nat.{◌-◌}
 use native.Mathlib.Omega.{arith}
 use Rattle.rules.specs.Rows.{same_map}
 use Rattle.tables.proofs.Doubles.{any_step}

@@ -1,7 +1,7 @@
 -- The rows that are left give the first broken row of all; then a partial row is the last.
 use mathlib.Core.Path.{sym, ap, ◌∙◌}
 use mathlib.Core.Bool.{not}
-use Prim.Native.Nat.{◌-◌, ◌/◌}
+use Prim.Native.Nat.{◌/◌}
 use native.Mathlib.Omega.{arith}
 use lib.ListN.{length}
 use Rattle.rules.proofs.Searches.{first_step, first_hit, first_end}

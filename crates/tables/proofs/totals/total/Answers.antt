@@ -1,6 +1,5 @@
 -- The sum of the rows passed, each count below 2^32.
 use mathlib.Core.Path.{◌≡◌, ap, ◌∙◌}
-use Prim.Native.Nat.{◌-◌}
 use native.Mathlib.Omega.{arith}
 use Rattle.rules.specs.declared.Table.TheVariants.{Functions}
 use Rattle.rules.specs.Rows.{whole_rows, summed, count_of, total}
