@@ -1,5 +1,6 @@
 // The entries that C calls (barkruffle_c exports them): each hands over to the crate that decides, and tells its answer as document 01's numbers.
 #![tactic(auto)]
+
 ghost use Rattle.std.specs.Prelude.{◌≡◌, ◌*◌, ◌≤◌, eqb, length, take};
 ghost use Rattle.rules.specs.declared.Table.TheVariants.{Symbols, FuncInfo, LineInfo};
 ghost use Rattle.rules.specs.Bytes.{little};

@@ -1,5 +1,6 @@
 // The names that C calls, as include/barkruffle.h declares them: each hands over to the library's entry, under the same contract.
 #![tactic(auto)]
+
 ghost use Rattle.std.specs.Prelude.{length};
 ghost use Rattle.rules.specs.declared.Table.TheVariants.{FuncInfo, LineInfo};
 ghost use Rattle.rules.specs.Bytes.{little};

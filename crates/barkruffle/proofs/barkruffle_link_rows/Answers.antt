@@ -1,6 +1,5 @@
 -- The rows are laid into an array of the entry's own, and what lies there is linked: the same answers, by `rows_link`.
 use Rattle.std.proofs.Common.{subst}
-use Rattle.rules.specs.Entries.{LinkResult}
 use Rattle.rules.specs.Lent.{outputs, lent_outputs, lent_by}
 use Rattle.barkruffle.specs.Promises.{LinkTold}
 use Rattle.barkruffle.proofs.Rows.{rows_link}
