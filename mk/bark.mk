@@ -1,13 +1,12 @@
-# The tool bark and its test. The proved library `tool` gives the exit status, and src/bark.c hands it on.
+# The tool bark and its test. rt builds the program over what it has proved, and leaves it in crates/bark/out.
 BARK = target/c/bark
-OS_C = $(dir $(shell $(RT) doc))../lib/libos_c.a
 
 .PHONY: bark test-bark
 
 bark:
-	@RT="$(RT)" sh tools/archive tool
+	cd crates/bark && $(RT) run -- help > /dev/null
 	mkdir -p $(dir $(BARK))
-	$(GCC) $(CFLAGS_C) -o $(BARK) src/bark.c target/staticlib/libtool.a $(OS_C)
+	cp crates/bark/out/bark $(BARK)
 
 # Every way of bark to end, and its words. The image and its list are held to what an independent model makes of the same tables, and
 # so are the words, the listing, the image and the list of random objects, and what is said of images that are shown.

@@ -1,9 +1,8 @@
-// The tool as the gate runs it. A Rattle program cannot set its exit status; src/bark.c is the same tool with it.
-use libc::STDERR_FILENO;
+// The tool, with its exit status.
+#![tactic(auto)]
 
-fn main() {
-    let status = tool::bark_run();
-    io::write_all(STDERR_FILENO, b"status ");
-    io::print_decimal(STDERR_FILENO, status as u64);
-    io::write_all(STDERR_FILENO, b"\n");
+use std::process::ExitCode;
+
+fn main(rt: HostRuntime) -> ExitCode {
+    ExitCode::from(tool::bark_run(&rt) as u8)
 }

@@ -24,5 +24,5 @@ most_of false i = 0xFFFF_FFFF
 abbrev pub read_of : Got → ℕ → ℕ → ℕ → Read
 read_of All table needs holds = Whole
 read_of Less table needs holds = Short table
-read_of Got-as-Failed table needs holds = Failed
+read_of (Got-as-Failed why) table needs holds = Failed why
 read_of NoRoom table needs holds = Large table needs holds

@@ -1,3 +1,4 @@
+pub mod Counts
 pub mod Filled
 pub mod Status
 pub mod Steps

@@ -17,7 +17,7 @@ status_of told = cond (eqb told.number 0) 0 1
 abbrev pub read_status : Read → ℕ
 read_status Whole = 0
 read_status NoLengths = 3
-read_status Failed = 3
+read_status (Failed why) = 3
 read_status (Short table) = 3
 read_status (Large table needs holds) = 3
 read_status GoesOn = 3
@@ -27,7 +27,7 @@ read_status NotClosed = 3
 abbrev pub is_end : Read → Bool
 is_end Whole = true
 is_end NoLengths = false
-is_end Failed = true
+is_end (Failed why) = true
 is_end (Short table) = false
 is_end (Large table needs holds) = false
 is_end GoesOn = true

@@ -7,7 +7,7 @@ use Rattle.rules.specs.Lent.{Buffers}
 use Rattle.rules.specs.Pieces.{pieces_bytes}
 use Rattle.linker.specs.Linker.{Outcomes}
 use Rattle.tell.specs.Files.{table_in}
-use Rattle.io.specs.Counts.{IsPrefixLen}
+use Rattle.clerk.specs.Counts.{IsPrefixLen}
 use Rattle.clerk.specs.declared.steps.Made.{Made}
 
 -- ---- what a held file offers to each step

@@ -1,5 +1,8 @@
 // The tool's files by their arguments.
 // bark SUBCOMMAND TABLES ROOT IMAGE PIECES
+use std::env::{Env, FillError};
+use std::io;
+
 pub const SUBCOMMAND: usize = 1;
 
 pub const TABLES: usize = 2;
@@ -9,3 +12,22 @@ pub const ROOT: usize = 3;
 pub const IMAGE: usize = 4;
 
 pub const PIECES: usize = 5;
+
+// The system's numbers for an argument that is not there, for a name that has no room, and for one that is not text.
+const EINVAL: i32 = 22;
+
+const ENAMETOOLONG: i32 = 36;
+
+const EILSEQ: i32 = 84;
+
+// Argument i as the name of a file, held in `room`.
+pub fn name<'a>(rt: &impl Env, i: usize, room: &'a mut [u8]) -> io::Result<&'a str> {
+    match rt.arg(i, room) {
+        Ok(n) => match str::from_utf8(&room[..n]) {
+            Ok(name) => Ok(name),
+            Err(_) => Err(io::Error::from_raw_os_error(EILSEQ)),
+        },
+        Err(FillError::TooLong) => Err(io::Error::from_raw_os_error(ENAMETOOLONG)),
+        Err(FillError::NotPresent) => Err(io::Error::from_raw_os_error(EINVAL)),
+    }
+}

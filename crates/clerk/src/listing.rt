@@ -5,27 +5,28 @@ ghost use Rattle.tell.specs.Room.{own_most};
 
 use crate::status::DONE;
 use crate::telling::{ended, say};
-use libc::STDOUT_FILENO;
+use std::io;
 use tell::listing::row;
 
-fn rows(own: usize, pieces: &[u8], image: &[u8], lines: &[u8]) -> bool
+fn rows(rt: &impl Print, own: usize, pieces: &[u8], image: &[u8], lines: &[u8]) -> io::Result<()>
     requires { length image.now ≤ own_most }
 {
-    let slots = image.len() / 8;
-    let mut slot = 0;
-    while slot < slots {
-        if !say(STDOUT_FILENO, row(own, pieces, image, lines, slot)) {
-            return false;
-        }
-        slot += 1;
+    for slot in 0..image.len() / 8 {
+        say(rt, row(own, pieces, image, lines, slot))?;
     }
-    true
+    Ok(())
 }
 
 // `own` is the number of the root's line records; `pieces` is the list that the link gave.
-pub fn list(own: usize, pieces: &[u8], image: &[u8], lines: &[u8]) -> u32
+pub fn list(
+    rt: &(impl Print + Eprint),
+    own: usize,
+    pieces: &[u8],
+    image: &[u8],
+    lines: &[u8],
+) -> u32
     requires { length image.now ≤ own_most }
     ensures { (result ≤ 4) × (either 0 4 result ≡ true) }
 {
-    ended(rows(own, pieces, image, lines), DONE)
+    ended(rt, rows(rt, own, pieces, image, lines), DONE)
 }

@@ -4,7 +4,7 @@ ghost use Rattle.rules.specs.Bytes.{little};
 ghost use Rattle.rules.specs.Answers.{reply_of};
 ghost use Rattle.rules.specs.Entries.{link_entry, map_entry, link_pieces_entry};
 ghost use Rattle.rules.specs.Examine.{examine_entry};
-ghost use Rattle.rules.specs.Lent.{was, outputs, lent_outputs, lent_by, lent_shown};
+ghost use Rattle.rules.specs.Lent.{outputs, lent_outputs, lent_by, lent_shown};
 ghost use Rattle.linker.specs.Linker.{Outcomes};
 ghost use Rattle.maps.specs.Passes.{Relocated};
 ghost use Rattle.clerk.specs.Steps.{held_maps, held_offer, MadeBy};
@@ -17,7 +17,7 @@ use tell::files::table;
 
 // The map step: table 6 stands apart, since it is written to.
 pub fn map_step(file: &[u8], instructions: &mut [u8]) -> Answer
-    ensures { Relocated (map_entry little (held_maps (was file) (was instructions))) result instructions.new }
+    ensures { Relocated (map_entry little (held_maps file.now instructions.old)) result instructions.new }
 {
     relocate_maps(
         table(file, files::CODE),
@@ -38,13 +38,13 @@ pub fn link(
     line_info: &mut [u8],
 ) -> Answer
     ensures { Outcomes
-        (outputs image.exit func_info.exit line_info.exit)
+        (outputs image.new func_info.new line_info.new)
         result
         (link_entry
         little
-        (held_offer (was file) (was instructions))
+        (held_offer file.now instructions.now)
         root
-        (lent_by (lent_outputs image func_info line_info))) }
+        (lent_by (lent_outputs image.old func_info.old line_info.old))) }
 {
     linker::link(
         table(file, files::CODE),
@@ -62,7 +62,7 @@ pub fn link(
 }
 
 // What a link with its list answers, and the bytes of the list.
-#[derive(Drop)]
+#[derive(Clone, Copy)]
 pub struct Made {
     pub answer: Answer,
     pub bytes: usize,
@@ -80,11 +80,11 @@ pub fn link_pieces(
     ensures { MadeBy
         (link_pieces_entry
         little
-        (held_offer (was file) (was instructions))
+        (held_offer file.now instructions.now)
         root
-        (lent_by (lent_outputs image func_info line_info))
-        (length (was pieces)))
-        (outputs image.exit func_info.exit line_info.exit)
+        (lent_by (lent_outputs image.old func_info.old line_info.old))
+        (length pieces.old))
+        (outputs image.new func_info.new line_info.new)
         pieces.new
         result }
 {
@@ -121,9 +121,9 @@ pub fn examine(
 ) -> Answer
     ensures { reply_of result ≡ examine_entry
         little
-        (held_offer (was file) (was instructions))
+        (held_offer file.now instructions.now)
         root
-        (lent_shown image func_info line_info pieces) }
+        (lent_shown image.now func_info.now line_info.now pieces.now) }
 {
     examine::examine(
         table(file, files::CODE),

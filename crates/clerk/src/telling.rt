@@ -1,11 +1,13 @@
 // Sentences, written out: answers on standard output, and what went wrong on standard error. The words are tell's.
 ghost use Rattle.std.specs.Prelude.{◌≡◌, true, ◌≤◌};
+ghost use Rattle.clerk.specs.Counts.{IsPrefixLen};
 ghost use Rattle.clerk.specs.Status.{either, status_of, read_status};
 
 use crate::reading::Read;
 use crate::status::{DONE, NO_INPUT, NO_OUTPUT, REFUSED, USAGE};
-use libc::{STDERR_FILENO, STDOUT_FILENO};
-use tell::lines::spoken_line;
+use std::fmt::{Display, Formatter, Write};
+use std::{fmt, io};
+use tell::lines::{Words, spoken_line};
 use tell::room::SHOWN_PIECES;
 use tell::text::{
     CANNOT_END, CANNOT_READ, END, ENDS_WITHIN, GOES_ON, IMAGE_FILE, NEEDS, NO_LENGTHS, PIECES_FILE,
@@ -13,16 +15,73 @@ use tell::text::{
 };
 use tell::words::{Sentence, Told, answer, of_file, of_part};
 
+// A name, which need not be text.
+#[derive(Clone, Copy)]
+struct Name<'a>(&'a [u8]);
+
+impl Display for Name<'_> {
+    fn fmt<W: fmt::Write>(&self, f: &mut Formatter<W>) -> fmt::Result {
+        match str::from_utf8(self.0) {
+            Ok(text) => f.write_str(text),
+            Err(_) => write!(f, "{}", self.0.escape_ascii()),
+        }
+    }
+}
+
+// The system's words for an error, without the number that std puts after them.
+#[derive(Clone, Copy)]
+struct Reason(io::Error);
+
+// What std puts between the two.
+const NUMBER: &str = " (os error ";
+
+// Takes words up to the number.
+#[derive(Drop)]
+struct Unnumbered<'a, W> {
+    words: &'a mut W,
+    ended: bool,
+}
+
+impl<W: fmt::Write> fmt::Write for Unnumbered<'_, W> {
+    fn write_str(&mut self, s: &str) -> fmt::Result {
+        if self.ended {
+            return Ok(());
+        }
+        let Some((words, _)) = s.split_once(NUMBER) else {
+            return self.words.write_str(s);
+        };
+        self.ended = true;
+        self.words.write_str(words)
+    }
+}
+
+impl Display for Reason {
+    fn fmt<W: fmt::Write>(&self, f: &mut Formatter<W>) -> fmt::Result {
+        let mut words = Unnumbered {
+            words: f,
+            ended: false,
+        };
+        write!(words, "{}", self.0)
+    }
+}
+
+// What failed and why, a line of its own. A standard error that takes no words is left at that.
+fn fail(rt: &impl Eprint, what: &[u8], why: io::Error) {
+    let _ = eprintln!(rt; "{}: {}", Name(what), Reason(why));
+}
+
 // Standard output took the words, or it is said that it did not.
-pub(crate) fn ended(written: bool, status: u32) -> u32
+pub(crate) fn ended(rt: &impl Eprint, written: io::Result<()>, status: u32) -> u32
     requires { status ≤ 4 }
     ensures { (result ≤ 4) × (either status 4 result ≡ true) }
 {
-    if written {
-        return status;
+    match written {
+        Ok(()) => status,
+        Err(why) => {
+            fail(rt, b"standard output", why);
+            NO_OUTPUT
+        }
     }
-    os::fail(b"standard output");
-    NO_OUTPUT
 }
 
 fn status_of(told: Told) -> u32
@@ -34,32 +93,51 @@ fn status_of(told: Told) -> u32
     REFUSED
 }
 
-// A sentence, written out by one call.
-pub(crate) fn say(fd: i32, sentence: Sentence) -> bool {
+fn spoken(sentence: Sentence) -> Words
+    ensures { IsPrefixLen result.used result.bytes }
+{
     let text = TEXT;
     let lines = sentence.lines;
     let numbers = sentence.numbers;
-    let words = spoken_line(&text, &lines, &numbers);
+    spoken_line(&text, &lines, &numbers)
+}
+
+// A sentence, written out by one call.
+pub(crate) fn say(rt: &impl Print, sentence: Sentence) -> io::Result<()> {
+    let words = spoken(sentence);
     let bytes = words.bytes;
     let n = words.used;
-    io::write_all(fd, &bytes[..n])
+    rt.write_all(&bytes[..n])
+}
+
+// The same on standard error. What it does not take is lost.
+fn warn(rt: &impl Eprint, sentence: Sentence) {
+    let words = spoken(sentence);
+    let bytes = words.bytes;
+    let n = words.used;
+    let _ = rt.eprint(Name(&bytes[..n]));
 }
 
 // What a step answered: `accepts` and `refuses` are the text's lines that its words begin with, `done` the one that a done step is told with.
-pub fn step(told: Told, root: u32, accepts: usize, refuses: usize, done: usize) -> u32
+pub fn step(
+    rt: &(impl Print + Eprint),
+    told: Told,
+    root: u32,
+    accepts: usize,
+    refuses: usize,
+    done: usize,
+) -> u32
     ensures { (result ≤ 4) × (either (status_of told) 4 result ≡ true) }
 {
     let status = status_of(told);
     ended(
-        say(STDOUT_FILENO, answer(told, root, accepts, refuses, done)),
+        rt,
+        say(rt, answer(told, root, accepts, refuses, done)),
         status,
     )
 }
 
-fn use_of_bark(fd: i32) -> bool {
-    io::write_all(
-        fd,
-        b"usage: bark link TABLES ROOT IMAGE [PIECES]
+const USE: &str = "usage: bark link TABLES ROOT IMAGE [PIECES]
        bark examine TABLES ROOT IMAGE PIECES
        bark help
 
@@ -73,45 +151,43 @@ examine  says yes or no: whether an image, whoever linked it, is that function l
   PIECES  two u32 for each piece in the image's order: its function's row, and the slot where it starts
 
 status   0 done, or yes; 1 refused, or no; 2 wrong use; 3 a file cannot be read whole; 4 the output cannot be written
-",
-    )
-}
+";
 
-pub fn help() -> u32
+pub fn help(rt: &(impl Print + Eprint)) -> u32
     ensures { (result ≤ 4) × (either 0 4 result ≡ true) }
 {
-    ended(use_of_bark(STDOUT_FILENO), DONE)
+    ended(rt, rt.write_all(USE.as_bytes()), DONE)
 }
 
-pub fn usage() -> u32
+pub fn usage(rt: &impl Eprint) -> u32
     ensures { result ≡ 2 }
 {
-    use_of_bark(STDERR_FILENO);
+    let _ = rt.eprint(USE);
     USAGE
 }
 
 // What is wrong with a file, on standard error. The one line that has a number is that for a list that is too long: what bark holds.
-pub fn complain(file: usize, what: usize) {
-    say(STDERR_FILENO, of_file(file, what, SHOWN_PIECES as u32));
+pub fn complain(rt: &impl Eprint, file: usize, what: usize) {
+    warn(rt, of_file(file, what, SHOWN_PIECES as u32));
 }
 
 // A call on a file failed: why, and what that means.
-pub fn failed(path: &[u8], file: usize, what: usize) {
-    os::fail(path);
-    complain(file, what);
+pub fn failed(rt: &impl Eprint, path: &[u8], file: usize, what: usize, why: io::Error) {
+    fail(rt, path, why);
+    complain(rt, file, what);
 }
 
 // The same of a file whose path is not at hand.
-pub fn nameless(file: usize, what: usize) {
+pub fn nameless(rt: &impl Eprint, file: usize, what: usize, why: io::Error) {
     if file == TABLES_FILE {
-        failed(b"TABLES", file, what);
+        failed(rt, b"TABLES", file, what, why);
         return;
     }
     if file == IMAGE_FILE {
-        failed(b"IMAGE", file, what);
+        failed(rt, b"IMAGE", file, what, why);
         return;
     }
-    failed(b"PIECES", file, what);
+    failed(rt, b"PIECES", file, what, why);
 }
 
 fn pick(file: usize, one: usize, its: usize, another: usize) -> usize {
@@ -119,7 +195,7 @@ fn pick(file: usize, one: usize, its: usize, another: usize) -> usize {
 }
 
 // What a file that is not had whole lacks.
-pub fn read(file: usize, read: Read) -> u32
+pub fn read(rt: &impl Eprint, file: usize, read: Read) -> u32
     ensures { (result ≡ read_status read) × (result ≤ 4) }
 {
     match read {
@@ -127,16 +203,16 @@ pub fn read(file: usize, read: Read) -> u32
             return DONE;
         }
         Read::NoLengths => {
-            complain(file, NO_LENGTHS);
+            complain(rt, file, NO_LENGTHS);
             return NO_INPUT;
         }
-        Read::Failed => {
-            nameless(file, CANNOT_READ);
+        Read::Failed(why) => {
+            nameless(rt, file, CANNOT_READ, why);
             return NO_INPUT;
         }
         Read::Short(table) => {
-            say(
-                STDERR_FILENO,
+            warn(
+                rt,
                 of_part(
                     file,
                     pick(file, TABLES_FILE, ENDS_WITHIN, RUN_ENDS),
@@ -153,8 +229,8 @@ pub fn read(file: usize, read: Read) -> u32
             needs,
             holds,
         } => {
-            say(
-                STDERR_FILENO,
+            warn(
+                rt,
                 of_part(
                     file,
                     pick(file, TABLES_FILE, TOO_LARGE, RUN_TOO_LARGE),
@@ -167,11 +243,11 @@ pub fn read(file: usize, read: Read) -> u32
             return NO_INPUT;
         }
         Read::GoesOn => {
-            complain(file, pick(file, PIECES_FILE, TOO_LONG, GOES_ON));
+            complain(rt, file, pick(file, PIECES_FILE, TOO_LONG, GOES_ON));
             return NO_INPUT;
         }
         Read::NotClosed => {
-            nameless(file, CANNOT_END);
+            complain(rt, file, CANNOT_END);
             return NO_INPUT;
         }
     }

@@ -2,10 +2,10 @@
 ghost use Rattle.std.specs.Prelude.{◌≡◌};
 ghost use Rattle.paths.specs.Shown.{small_of, nowhere_at, slot_shown, source_by, image_by, source_shown, image_shown, WordsOf};
 
-use libc::STDOUT_FILENO;
 use rules::Found;
 use rules::limits::INSTRUCTION_SIZE;
 use source::SourceStand;
+use std::io;
 use tell::lines::spoken_line;
 use walk::{Stand, slot_in};
 use wire::u32_at;
@@ -68,7 +68,7 @@ const MOST_SHOWN: u32 = 0xFFFF_FFFF;
 const NO_SLOT: usize = MOST_SHOWN as usize;
 
 // Where a walk is: the line for its numbers, the numbers, its row and slot, and the line for how it goes on.
-#[derive(Drop)]
+#[derive(Clone, Copy)]
 pub struct Place {
     pub words: usize,
     pub a: u32,
@@ -162,7 +162,7 @@ pub fn image_place(stand: Stand) -> Place
 }
 
 // The two words of a slot, and the line that shows them.
-#[derive(Drop)]
+#[derive(Clone, Copy)]
 pub struct Words {
     pub line: usize,
     pub low: u32,
@@ -196,17 +196,25 @@ pub fn words_of(code: &[u8], first: usize, slot: usize) -> Words
     }
 }
 
-fn write(lines: [usize; 9], numbers: [u32; 27]) {
+fn write(rt: &impl Print, lines: [usize; 9], numbers: [u32; 27]) -> io::Result<()> {
     let text = TEXT;
     let words = spoken_line(&text, &lines, &numbers);
     let bytes = words.bytes;
     let n = words.used;
-    io::write_all(STDOUT_FILENO, &bytes[..n]);
+    rt.write_all(&bytes[..n])
 }
 
 // Both walks in one line.
-pub fn write_both(k: usize, here: Place, left: Words, there: Place, right: Words) {
+pub fn write_both(
+    rt: &impl Print,
+    k: usize,
+    here: Place,
+    left: Words,
+    there: Place,
+    right: Words,
+) -> io::Result<()> {
     write(
+        rt,
         [
             STEP,
             here.words,
@@ -247,15 +255,16 @@ pub fn write_both(k: usize, here: Place, left: Words, there: Place, right: Words
             0,
             0,
         ],
-    );
+    )
 }
 
 // A line of the text alone.
-pub fn say(k: usize) {
+pub fn say(rt: &impl Print, k: usize) -> io::Result<()> {
     write(
+        rt,
         [
             k, STANDS, STANDS, STANDS, STANDS, STANDS, STANDS, STANDS, STANDS,
         ],
         [0; 27],
-    );
+    )
 }

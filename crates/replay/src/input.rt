@@ -2,8 +2,8 @@
 ghost use Rattle.std.specs.Prelude.{◌≡◌, ◌≤◌, ◌<◌, min, length};
 ghost use Rattle.replay.specs.Input.{word_at, data_in};
 
-use clerk::reading::{Got, Read, fill, read_after};
-use libc::STDIN_FILENO;
+use clerk::reading::{Got, Read, fill, read_after, take};
+use std::io;
 use tell::files::{TABLES, start_of};
 
 // A case's header: 24 words. The tables' lengths stand from this byte on.
@@ -38,17 +38,17 @@ pub const FILE: usize = 120_354;
 pub const TABLE_6: usize = 65_600;
 
 // A header by value, and how many of its bytes the input had.
-#[derive(Drop)]
+#[derive(Clone, Copy)]
 pub struct Header {
     pub bytes: [u8; HEADER],
     pub got: usize,
 }
 
-pub fn read_header() -> Header
+pub fn read_header(input: &mut impl io::Read) -> Header
     ensures { result.got ≤ 96 }
 {
     let mut bytes = [0u8; HEADER];
-    let got = io::read_full(STDIN_FILENO, &mut bytes);
+    let got = take(input, &mut bytes).bytes;
     Header { bytes, got }
 }
 
@@ -89,6 +89,7 @@ pub fn data(file: &[u8], n: usize) -> &[u8]
 
 // A case after its header: the tables, and after them the reader's data. False where it does not fit, or the input ends before.
 pub fn read_case(
+    input: &mut impl io::Read,
     header: [u8; HEADER],
     file: &mut [u8; FILE],
     instructions: &mut [u8; TABLE_6],
@@ -96,11 +97,11 @@ pub fn read_case(
     ensures { (length file.new ≡ 120354) × (length instructions.new ≡ 65600) }
 {
     let lengths = &header[LENGTHS..];
-    let read = read_after(STDIN_FILENO, false, lengths, file, instructions);
+    let read = read_after(input, false, lengths, file, instructions);
     let Read::Whole = read else {
         return false;
     };
     let start = start_of(lengths, TABLES);
-    let got = fill(STDIN_FILENO, file, start, word(header, DATA) as usize);
+    let got = fill(input, file, start, word(header, DATA) as usize);
     if let Got::All = got { true } else { false }
 }

@@ -4,13 +4,12 @@ ghost use Rattle.rules.specs.Bytes.{little};
 ghost use Rattle.rules.specs.Entries.{link_entry, map_entry};
 ghost use Rattle.rules.specs.Readers.{read_records, record_reply, record_part};
 ghost use Rattle.info.specs.Promises.{given};
-ghost use Rattle.rules.specs.Lent.{was, outputs, lent_outputs, lent_by};
+ghost use Rattle.rules.specs.Lent.{outputs, lent_outputs, lent_by};
 ghost use Rattle.answers.specs.Told.{Told};
 ghost use Rattle.clerk.specs.Steps.{held_offer, held_maps};
 ghost use Rattle.replay.specs.Input.{info_of};
 ghost use Rattle.barkruffle.specs.Promises.{LinkTold, MapTold, ReadTold};
 
-use crate::show;
 use barkruffle::{
     barkruffle_func_info, barkruffle_func_info_record_number, barkruffle_line_info,
     barkruffle_line_info_record_number, barkruffle_link, barkruffle_relocate_maps,
@@ -20,7 +19,6 @@ use tell::files;
 use tell::files::table;
 
 pub fn link(
-    index: u64,
     file: &[u8],
     instructions: &[u8],
     root: u32,
@@ -30,17 +28,17 @@ pub fn link(
     places: &mut [u8],
 ) -> u32
     ensures { LinkTold
-        (was places)
+        places.old
         places.new
-        (outputs image.exit image_func_info.exit image_line_info.exit)
+        (outputs image.new image_func_info.new image_line_info.new)
         result
         (link_entry
         little
-        (held_offer (was file) (was instructions))
+        (held_offer file.now instructions.now)
         root
-        (lent_by (lent_outputs image image_func_info image_line_info))) }
+        (lent_by (lent_outputs image.old image_func_info.old image_line_info.old))) }
 {
-    let number = barkruffle_link(
+    barkruffle_link(
         table(file, files::CODE),
         table(file, files::SYMBOLS),
         table(file, files::FUNCTIONS),
@@ -53,27 +51,18 @@ pub fn link(
         image_func_info,
         image_line_info,
         places,
-    );
-    show::link(
-        index,
-        number,
-        places,
-        image,
-        image_func_info,
-        image_line_info,
-    );
-    number
+    )
 }
 
-pub fn map_step(index: u64, file: &[u8], instructions: &mut [u8], places: &mut [u8]) -> u32
+pub fn map_step(file: &[u8], instructions: &mut [u8], places: &mut [u8]) -> u32
     ensures { MapTold
-        (was places)
+        places.old
         places.new
         instructions.new
         result
-        (map_entry little (held_maps (was file) (was instructions))) }
+        (map_entry little (held_maps file.now instructions.old)) }
 {
-    let number = barkruffle_relocate_maps(
+    barkruffle_relocate_maps(
         table(file, files::CODE),
         table(file, files::SYMBOLS),
         table(file, files::FUNCTIONS),
@@ -81,9 +70,7 @@ pub fn map_step(index: u64, file: &[u8], instructions: &mut [u8], places: &mut [
         table(file, files::MAPS),
         instructions,
         places,
-    );
-    show::bytes(index, 2, number, places, instructions);
-    number
+    )
 }
 
 fn read_records(
@@ -95,11 +82,11 @@ fn read_records(
     places: &mut [u8],
 ) -> u32
     ensures { ReadTold
-        (was places)
+        places.old
         places.new
         out.new
         result
-        (read_records little (info_of func) (given size count (was bytes)) (length (was out))) }
+        (read_records little (info_of func) (given size count bytes.now) (length out.old)) }
 {
     if func {
         return barkruffle_func_info(size, count, bytes, out, places);
@@ -109,7 +96,6 @@ fn read_records(
 
 // All records: kind 3, of struct bpf_func_info, or kind 4, of struct bpf_line_info.
 pub fn records(
-    index: u64,
     kind: u32,
     size: u32,
     count: u32,
@@ -118,19 +104,17 @@ pub fn records(
     places: &mut [u8],
 ) -> u32
     ensures { ReadTold
-        (was places)
+        places.old
         places.new
         out.new
         result
-        (read_records little (info_of (eqb kind 3)) (given size count (was bytes)) (length (was out))) }
+        (read_records little (info_of (eqb kind 3)) (given size count bytes.now) (length out.old)) }
 {
-    let number = read_records(kind == 3, size, count, bytes, out, places);
-    show::bytes(index, kind, number, places, out);
-    number
+    read_records(kind == 3, size, count, bytes, out, places)
 }
 
 fn record_number(func: bool, size: u32, count: u32, bytes: &[u8], k: u32, places: &mut [u8]) -> u32
-    ensures { Told (was places) places.new result (record_reply little (info_of func) (given size count (was bytes)) k) }
+    ensures { Told places.old places.new result (record_reply little (info_of func) (given size count bytes.now) k) }
 {
     if func {
         return barkruffle_func_info_record_number(size, count, bytes, k, places);
@@ -138,8 +122,9 @@ fn record_number(func: bool, size: u32, count: u32, bytes: &[u8], k: u32, places
     barkruffle_line_info_record_number(size, count, bytes, k, places)
 }
 
-fn record_bytes(func: bool, size: u32, count: u32, bytes: &[u8], k: u32) -> &[u8]
-    ensures { result.now ≡ record_part little (info_of func) (given size count (was bytes)) k }
+// A record's bytes.
+pub fn record_bytes(func: bool, size: u32, count: u32, bytes: &[u8], k: u32) -> &[u8]
+    ensures { result.now ≡ record_part little (info_of func) (given size count bytes.now) k }
 {
     if func {
         return func_info_record(size, count, bytes, k);
@@ -147,25 +132,9 @@ fn record_bytes(func: bool, size: u32, count: u32, bytes: &[u8], k: u32) -> &[u8
     line_info_record(size, count, bytes, k)
 }
 
-// Record k, its number and its bytes: kind 5, of struct bpf_func_info, or kind 6, of struct bpf_line_info.
-pub fn record(
-    index: u64,
-    kind: u32,
-    size: u32,
-    count: u32,
-    bytes: &[u8],
-    k: u32,
-    places: &mut [u8],
-) -> u32
-    ensures { Told (was places) places.new result (record_reply little (info_of (eqb kind 5)) (given size count (was bytes)) k) }
+// The number of record k: kind 5, of struct bpf_func_info, or kind 6, of struct bpf_line_info.
+pub fn record(kind: u32, size: u32, count: u32, bytes: &[u8], k: u32, places: &mut [u8]) -> u32
+    ensures { Told places.old places.new result (record_reply little (info_of (eqb kind 5)) (given size count bytes.now) k) }
 {
-    let number = record_number(kind == 5, size, count, bytes, k, places);
-    show::record(
-        index,
-        kind,
-        number,
-        places,
-        record_bytes(kind == 5, size, count, bytes, k),
-    );
-    number
+    record_number(kind == 5, size, count, bytes, k, places)
 }

@@ -1,7 +1,7 @@
 // A line of the output: index, kind and number, the place buffer, and checksums.
 ghost use Rattle.std.specs.Prelude.{◌<◌};
 
-use libc::STDOUT_FILENO;
+use std::io;
 
 fn wide(x: u8) -> u64
     ensures { result < 256 }
@@ -20,53 +20,70 @@ fn checksum(s: &[u8]) -> u64 {
     sum
 }
 
-fn hex(s: &[u8]) {
-    let mut i = 0;
-    while i < s.len() {
-        io::print_hex(STDOUT_FILENO, wide(s[i]), 2);
-        i += 1;
+fn hex(rt: &impl Print, s: &[u8]) -> io::Result<()> {
+    for b in s {
+        print!(rt; "{:02x}", *b)?;
     }
+    Ok(())
 }
 
-fn field(n: u64) {
-    io::write_all(STDOUT_FILENO, b" ");
-    io::print_decimal(STDOUT_FILENO, n);
+fn field(rt: &impl Print, n: u64) -> io::Result<()> {
+    print!(rt; " {n}")
 }
 
 // `INDEX KIND NUMBER | places |`
-fn answer(index: u64, kind: u32, number: u32, places: &[u8]) {
-    io::print_decimal(STDOUT_FILENO, index);
-    field(kind as u64);
-    field(number as u64);
-    io::write_all(STDOUT_FILENO, b" | ");
-    hex(places);
-    io::write_all(STDOUT_FILENO, b" |");
+fn answer(rt: &impl Print, index: u64, kind: u32, number: u32, places: &[u8]) -> io::Result<()> {
+    print!(rt; "{index} {kind} {number} | ")?;
+    hex(rt, places)?;
+    print!(rt; " |")
 }
 
-fn end() {
-    io::write_all(STDOUT_FILENO, b"\n");
+fn end(rt: &impl Print) -> io::Result<()> {
+    println!(rt)
 }
 
 // A link, with the checksums of its three outputs.
-pub fn link(index: u64, number: u32, places: &[u8], image: &[u8], funcs: &[u8], lines: &[u8]) {
-    answer(index, 1, number, places);
-    field(checksum(image));
-    field(checksum(funcs));
-    field(checksum(lines));
-    end();
+pub fn link(
+    rt: &impl Print,
+    index: u64,
+    number: u32,
+    places: &[u8],
+    image: &[u8],
+    funcs: &[u8],
+    lines: &[u8],
+) -> io::Result<()> {
+    answer(rt, index, 1, number, places)?;
+    field(rt, checksum(image))?;
+    field(rt, checksum(funcs))?;
+    field(rt, checksum(lines))?;
+    end(rt)
 }
 
 // What else fills one output.
-pub fn bytes(index: u64, kind: u32, number: u32, places: &[u8], out: &[u8]) {
-    answer(index, kind, number, places);
-    field(checksum(out));
-    end();
+pub fn bytes(
+    rt: &impl Print,
+    index: u64,
+    kind: u32,
+    number: u32,
+    places: &[u8],
+    out: &[u8],
+) -> io::Result<()> {
+    answer(rt, index, kind, number, places)?;
+    field(rt, checksum(out))?;
+    end(rt)
 }
 
 // A record, with its length.
-pub fn record(index: u64, kind: u32, number: u32, places: &[u8], found: &[u8]) {
-    answer(index, kind, number, places);
-    field(checksum(found));
-    field(found.len() as u64);
-    end();
+pub fn record(
+    rt: &impl Print,
+    index: u64,
+    kind: u32,
+    number: u32,
+    places: &[u8],
+    found: &[u8],
+) -> io::Result<()> {
+    answer(rt, index, kind, number, places)?;
+    field(rt, checksum(found))?;
+    field(rt, found.len() as u64)?;
+    end(rt)
 }
