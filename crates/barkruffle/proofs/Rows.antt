@@ -74,6 +74,13 @@ module _ (code functions relocations instructions func_info line_info : List ℕ
   pub laid_links : (ys : List Symbol) (zs : List ℕ) → linked (take (row_size Symbols * rows_needed (length ys)) (laid_in ys zs)) ≡ linked (bytes_of ys)
   laid_links ys zs = ap linked (laid_front ys zs) ∙ linked_needed ys
 
+  pub rows_link : (ys : List Symbol) (zs table : List ℕ) (count : ℕ) → count ≡ rows_needed (length ys) → table ≡ laid_in ys zs
+      → linked (take (row_size Symbols * count) table) ≡ linked (bytes_of ys)
+  rows_link ys zs table count n e =
+      ap (λ (k : ℕ). linked (take (row_size Symbols * k) table)) n
+      ∙ ap (λ (t : List ℕ). linked (take (row_size Symbols * rows_needed (length ys)) t)) e
+      ∙ laid_links ys zs
+
 -- ---- a row found
 pub row_told : (ys : List Symbol) (x r : ℕ) (f : Found) → length ys < no_row → f ≡ found_of (symbol_with (bytes_of ys) x) → r ≡ number_found f
     → RowTold r (symbol_with (bytes_of ys) x)

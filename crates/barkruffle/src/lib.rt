@@ -1,5 +1,6 @@
-// The entries that C calls: each hands over to the crate that decides, and tells its answer as document 01's numbers.
+// The entries that C calls (barkruffle_c exports them): each hands over to the crate that decides, and tells its answer as document 01's numbers.
 #![tactic(auto)]
+
 ghost use Rattle.std.specs.Prelude.{◌≡◌, ◌*◌, ◌≤◌, eqb, length, take};
 ghost use Rattle.rules.specs.declared.Table.TheVariants.{Symbols, FuncInfo, LineInfo};
 ghost use Rattle.rules.specs.Bytes.{little};
@@ -26,8 +27,7 @@ use rules::{Answer, Found};
 use symbols::{ROWS_ROOM, Symbol, find_rows, lay_rows};
 
 // Rewrites table 6 in place, only once nothing is refused.
-#[unsafe(no_mangle)]
-pub extern "C" fn barkruffle_relocate_maps(
+pub fn barkruffle_relocate_maps(
     code: &[u8],
     symbols: &[u8],
     functions: &[u8],
@@ -48,8 +48,7 @@ pub extern "C" fn barkruffle_relocate_maps(
 }
 
 // Links the function at the row root of table 3.
-#[unsafe(no_mangle)]
-pub extern "C" fn barkruffle_link(
+pub fn barkruffle_link(
     code: &[u8],
     symbols: &[u8],
     functions: &[u8],
@@ -91,8 +90,7 @@ pub extern "C" fn barkruffle_link(
 }
 
 // The link with its list of pieces, in order of placing: rows of a function's row and its start.
-#[unsafe(no_mangle)]
-pub extern "C" fn barkruffle_link_pieces(
+pub fn barkruffle_link_pieces(
     code: &[u8],
     symbols: &[u8],
     functions: &[u8],
@@ -139,8 +137,7 @@ pub extern "C" fn barkruffle_link_pieces(
 }
 
 // Examines an image from elsewhere, with its records and its list of pieces.
-#[unsafe(no_mangle)]
-pub extern "C" fn barkruffle_examine(
+pub fn barkruffle_examine(
     code: &[u8],
     symbols: &[u8],
     functions: &[u8],
@@ -228,8 +225,7 @@ fn link_laid(
 }
 
 // The link with table 2 lent as rows. They are laid into a table of its own, and linked from there.
-#[unsafe(no_mangle)]
-pub extern "C" fn barkruffle_link_rows(
+pub fn barkruffle_link_rows(
     code: &[u8],
     symbols: &[Symbol],
     functions: &[u8],
@@ -286,16 +282,14 @@ fn row_number(found: Found) -> u64
 }
 
 // The row of lent symbols that has the index, or all ones where none has.
-#[unsafe(no_mangle)]
-pub extern "C" fn barkruffle_find_symbol(symbols: &[Symbol], index: u32) -> u64
+pub fn barkruffle_find_symbol(symbols: &[Symbol], index: u32) -> u64
     ensures { RowTold result (symbol_with (bytes_of symbols.now) index) }
 {
     row_number(find_rows(symbols, index))
 }
 
 // Reads struct bpf_func_info records into rows of table 7.
-#[unsafe(no_mangle)]
-pub extern "C" fn barkruffle_func_info(
+pub fn barkruffle_func_info(
     size: u32,
     count: u32,
     bytes: &[u8],
@@ -314,8 +308,7 @@ pub extern "C" fn barkruffle_func_info(
 }
 
 // Reads struct bpf_line_info records into rows of table 8.
-#[unsafe(no_mangle)]
-pub extern "C" fn barkruffle_line_info(
+pub fn barkruffle_line_info(
     size: u32,
     count: u32,
     bytes: &[u8],
@@ -354,24 +347,21 @@ fn part_of(a: Answer, size: u32, k: u32) -> Part
 }
 
 // Record k of struct bpf_func_info, its tail included; (0, 0) where it is refused.
-#[unsafe(no_mangle)]
-pub extern "C" fn barkruffle_func_info_record(size: u32, count: u32, bytes: &[u8], k: u32) -> Part
+pub fn barkruffle_func_info_record(size: u32, count: u32, bytes: &[u8], k: u32) -> Part
     ensures { Stands FuncInfo (given size count bytes.now) k result.at result.len }
 {
     part_of(func_info_record_number(size, count, bytes, k), size, k)
 }
 
 // The same of struct bpf_line_info.
-#[unsafe(no_mangle)]
-pub extern "C" fn barkruffle_line_info_record(size: u32, count: u32, bytes: &[u8], k: u32) -> Part
+pub fn barkruffle_line_info_record(size: u32, count: u32, bytes: &[u8], k: u32) -> Part
     ensures { Stands LineInfo (given size count bytes.now) k result.at result.len }
 {
     part_of(line_info_record_number(size, count, bytes, k), size, k)
 }
 
 // The number of what `barkruffle_func_info_record` gives.
-#[unsafe(no_mangle)]
-pub extern "C" fn barkruffle_func_info_record_number(
+pub fn barkruffle_func_info_record_number(
     size: u32,
     count: u32,
     bytes: &[u8],
@@ -384,8 +374,7 @@ pub extern "C" fn barkruffle_func_info_record_number(
 }
 
 // The number of what `barkruffle_line_info_record` gives.
-#[unsafe(no_mangle)]
-pub extern "C" fn barkruffle_line_info_record_number(
+pub fn barkruffle_line_info_record_number(
     size: u32,
     count: u32,
     bytes: &[u8],

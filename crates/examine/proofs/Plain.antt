@@ -1,7 +1,7 @@
 -- A slot that has no relocation and is no call names nothing, so the link copies it.
 -- Assumes nothing.
-use mathlib.Core.Path.{◌≡◌, refl, sym, ap, ◌∙◌}
-use mathlib.Core.Bool.{Bool, true, false, not, cond, ◌&&◌}
+use mathlib.Core.Path.{◌≡◌, refl, ap, ◌∙◌}
+use mathlib.Core.Bool.{Bool, true, false, cond, ◌&&◌}
 use mathlib.Core.Option.{none}
 use Prim.Native.Nat.{ℕ, ◌+◌, ◌*◌}
 use native.Mathlib.Omega.{arith}
@@ -10,7 +10,7 @@ use lib.IntN.{pos, ◌+ℤ◌}
 use lib.Dec.{eqb}
 use Rattle.rules.specs.declared.Found.{Found}
 use Rattle.rules.specs.declared.Found.TheVariants.{At, Nothing}
-use Rattle.rules.specs.Object.{Insn, is_zero, is_call, Named, nothing, copied, decide, meaning}
+use Rattle.rules.specs.Object.{Insn, is_zero, is_call, nothing, copied, decide, meaning}
 use Rattle.rules.specs.Bytes.{little, slot_in}
 use Rattle.rules.specs.Tables.{Tables, Function, slots_on, function_at, by_relocation, object_of}
 use Rattle.rules.specs.Rows.{Offered, tables_of, function_slots, function_row}

@@ -30,7 +30,7 @@ use Rattle.merge.proofs.Checked.{checked_parts}
 use Rattle.pieces.specs.Tiling.{functions_only, listed, Tileable}
 use Rattle.pieces.proofs.Tiling.{Tiled, tiled, tiles_alike}
 use Rattle.examine.specs.Compared.{Visits}
-use Rattle.examine.specs.Recorded.{line_wrong, records_wrong, Recorded}
+use Rattle.examine.specs.Recorded.{records_wrong, Recorded}
 use Rattle.examine.specs.Examined.{Sized, Listed, Pieced}
 use Rattle.examine.proofs.Firsts.{neither, or_first, or_second, alike}
 use Rattle.examine.proofs.Sizing.{Fit, sizes_fit}

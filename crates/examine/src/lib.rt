@@ -1,5 +1,6 @@
 // An image from elsewhere, examined (document 02, W1): yes, or the first thing that is wrong, in the order of `rules`.
 #![tactic(auto)]
+
 ghost use Rattle.std.specs.Prelude.{◌≡◌};
 ghost use Rattle.rules.specs.Bytes.{little};
 ghost use Rattle.rules.specs.Answers.{refusal_in, reply_of};

@@ -1,10 +1,9 @@
 -- What stands against adding a function, by the rows of table 3 and the counts of the image: room, then a line record outside.
 -- Assumes nothing.
-use mathlib.Core.Path.{◌≡◌, refl, sym, ap, ◌∙◌}
+use mathlib.Core.Path.{◌≡◌, refl, ap, ◌∙◌}
 use mathlib.Core.Bool.{Bool, true, false, cond, ◌&&◌}
 use mathlib.Core.Option.{Option, none, some}
-use mathlib.Core.List.{List}
-use Prim.Native.Nat.{ℕ, ◌+◌, ◌*◌, ◌/◌, ◌≤◌, ◌<◌, min}
+use Prim.Native.Nat.{ℕ, ◌+◌, ◌≤◌, ◌<◌}
 use native.Mathlib.Omega.{arith}
 use borrow.Author.Tests.{leb-true}
 use lib.Dec.{leb}
@@ -14,7 +13,7 @@ use Rattle.rules.specs.Bytes.{little}
 use Rattle.rules.specs.Link as Link
 use Rattle.rules.specs.Link.{Refusal, refusal}
 use Rattle.rules.specs.Tables.{row_of, function_records_of, lines_of}
-use Rattle.rules.specs.Records.{Room, first_slot, stray, image_functions, image_lines, room_for, stray_line, then_stray, admits}
+use Rattle.rules.specs.Records.{room_for, stray_line, then_stray, admits}
 use Rattle.rules.specs.Rows.{whole_rows, summed, Offered, function_slots, function_func_info, function_line_info, func_info_row, line_info_row, tables_of}
 use Rattle.rules.specs.Lookups.{LinkChecked}
 use Rattle.rules.specs.Entries.{Outputs, room_in}
@@ -25,7 +24,7 @@ use Rattle.linker.specs.declared.State.{State}
 use Rattle.merge.specs.declared.Used.{Used}
 use Rattle.rules.specs.Lent.{Buffers, lent_by}
 use Rattle.linker.specs.Linker.{Holds}
-use Rattle.merge.specs.Merge.{line_rows, stray_in, room_bytes}
+use Rattle.merge.specs.Merge.{stray_in, room_bytes}
 use Rattle.linker.proofs.Extending as Extending
 use Rattle.linker.proofs.Extending.{own_functions, own_lines}
 

@@ -1,25 +1,23 @@
 -- A function added to the buffers is that function added to the state that they hold: its slots, its records, its start.
 -- Assumes nothing.
-use mathlib.Core.Path.{◌≡◌, refl, sym, ap, ◌∙◌, subst}
-use mathlib.Core.Logic.{◌≢◌}
-use mathlib.Core.Option.{Option, none, some}
+use mathlib.Core.Path.{◌≡◌, sym, ap, ◌∙◌, subst}
+use mathlib.Core.Option.{none, some}
 use mathlib.Core.List.{List, [], ◌∷◌, ◌++◌, map}
-use Prim.Native.Nat.{ℕ, zero, suc, ◌+◌, ◌*◌, ◌-◌, ◌/◌, ◌≤◌, ◌<◌, min}
+use Prim.Native.Nat.{ℕ, zero, suc, ◌+◌, ◌*◌, ◌-◌, ◌≤◌, ◌<◌}
 use native.Mathlib.Omega.{arith}
 use native.Mathlib.Decide.{ℕ_discrete, dec_lt}
 use lib.ListN.{length, get_or, take, drop, replicate, set, length-append, length-set, length-take, length-drop, length-map, get_or-eq_default}
 use lib.Seq.{length-take-le, drop-drop, get_or-set_same, get_or-set_other}
-use Rattle.rules.specs.declared.Table.TheVariants.{Functions, Instructions, FuncInfo, LineInfo}
-use Rattle.rules.specs.Object.{Insn, Object}
+use Rattle.rules.specs.declared.Table.TheVariants.{Functions}
 use Rattle.rules.specs.Faithful.{Piece, piece, slot_at}
 use Rattle.rules.specs.Bytes.{little, decoded, splice}
 use Rattle.rules.specs.Link as Link
 use Rattle.rules.specs.Link.{run, start_of, slots_of, extended}
-use Rattle.rules.specs.Tables.{FunctionRecord, LineRecord, function_records_of, lines_of, base, row_of, object_of}
+use Rattle.rules.specs.Tables.{function_records_of, lines_of, base, object_of}
 use Rattle.rules.specs.Records.{started_at, first_slot, rebased, image_functions, image_lines}
-use Rattle.rules.specs.Rows.{row_size, most_image_slots, most_image_functions, most_image_lines, whole_rows, summed, total, count_of, Offered, function_slots, function_func_info, function_line_info, func_info_row, line_info_row, tables_of}
-use Rattle.rules.specs.Lookups.{Checked, LinkChecked}
-use Rattle.rules.specs.Entries.{func_info_bytes, line_info_bytes, Outputs, room_in}
+use Rattle.rules.specs.Rows.{most_image_slots, most_image_functions, most_image_lines, whole_rows, summed, total, Offered, function_slots, function_func_info, function_line_info, func_info_row, line_info_row, tables_of}
+use Rattle.rules.specs.Lookups.{LinkChecked}
+use Rattle.rules.specs.Entries.{func_info_bytes, line_info_bytes}
 use Rattle.rules.proofs.Splices.{splice_length, splice_front, splice_rest}
 use Rattle.rules.proofs.Writing.{append_decoded, part_decoded}
 use Rattle.rules.proofs.Linking.{length_run}
@@ -30,7 +28,7 @@ use Rattle.rules.proofs.Merging.{image_functions_more, image_lines_more, func_by
 use Rattle.linker.specs.declared.State.{State}
 use Rattle.merge.specs.declared.Used.{Used}
 use Rattle.rules.specs.Lent.{Buffers, buffers, lent_by}
-use Rattle.linker.specs.Linker.{start_number, Valid, Grown, Holds}
+use Rattle.linker.specs.Linker.{start_number, Valid, Holds}
 use Rattle.merge.specs.Merge.{slot_bytes, func_rows, line_rows, func_bytes, line_bytes}
 
 -- ---- a row's parts of tables 6, 7 and 8

@@ -1,6 +1,6 @@
 -- A slot rewritten in the buffer is that slot rewritten in the state that the buffer holds, and no other.
 -- Assumes nothing.
-use mathlib.Core.Path.{◌≡◌, refl, sym, ap, ◌∙◌}
+use mathlib.Core.Path.{◌≡◌, sym, ap, ◌∙◌}
 use mathlib.Core.Bool.{Bool, true, false}
 use mathlib.Core.List.{List, [], ◌∷◌}
 use Prim.Native.Nat.{ℕ, ◌+◌, ◌*◌, ◌-◌, ◌≤◌, ◌<◌}
@@ -13,7 +13,7 @@ use Rattle.rules.specs.Bytes.{little, byte_at, bytes4, unsigned, half32, registe
 use Rattle.rules.specs.Link as Link
 use Rattle.rules.specs.Link.{rewritten}
 use Rattle.rules.specs.Rows.{Offered, most_image_slots}
-use Rattle.rules.proofs.Splices.{splice_length, splice_within, splice_rest}
+use Rattle.rules.proofs.Splices.{splice_within, splice_rest}
 use Rattle.rules.proofs.Writing.{length_bytes4, bytes_kept, source_kept, displacement_fits, calling_stored, referring_stored}
 use Rattle.linker.specs.declared.State.{State}
 use Rattle.rules.specs.Lent.{Buffers, buffers}

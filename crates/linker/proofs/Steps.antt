@@ -4,28 +4,27 @@ use mathlib.Core.Path.{◌≡◌, refl, sym, ap, subst, ◌∙◌}
 use mathlib.Core.Logic.{◌≢◌}
 use mathlib.Core.Bool.{Bool, true, false, cond}
 use mathlib.Core.Option.{Option, none, some}
-use mathlib.Core.List.{List, [], ◌∷◌, ◌++◌}
+use mathlib.Core.List.{List, [], ◌∷◌}
 use Prim.Native.Nat.{ℕ, zero, suc, ◌+◌, ◌*◌, ◌-◌, ◌≤◌, ◌<◌}
 use native.Mathlib.Nat.{sub-zero}
 use native.Mathlib.Numerals.{add-one}
 use native.Mathlib.Omega.{arith}
 use lib.Dec.{eqb}
 use borrow.Author.Tests.{eq-eqb, ne_eqb}
-use lib.ListN.{length, get_or, set, length-set}
+use lib.ListN.{length, get_or, set}
 use lib.Seq.{get_or-set_same, get_or-set_other}
 use Rattle.rules.specs.declared.Refusal as told
 use Rattle.rules.specs.declared.Judgement.{Judgement}
 use Rattle.rules.specs.declared.Judgement.TheVariants.{Passes, Refused}
 use Rattle.rules.specs.declared.Table.TheVariants.{Functions}
-use Rattle.rules.specs.Object.{Insn, Object, Meaning, copied, call, reference, refused, meaning, calling, referring}
+use Rattle.rules.specs.Object.{Insn, Meaning, copied, call, reference, refused, meaning, calling, referring}
 use Rattle.rules.specs.Bytes.{little}
 use Rattle.rules.specs.Link as Link
 use Rattle.rules.specs.Link.{Refusal, refusal, Outcome, linked, refuses, unfinished, and_then, start_of, extended, rewritten, unless, at_slot, visit, append}
 use Rattle.rules.specs.Tables.{object_of}
 use Rattle.rules.specs.Records.{admits}
-use Rattle.rules.specs.Answers.{Reply, reply, refused_reply, refusal_in}
+use Rattle.rules.specs.Answers.{reply, refused_reply, refusal_in}
 use Rattle.rules.specs.Rows.{most_rows, whole_rows, Offered, function_slots, summed, tables_of, most_image_slots}
-use Rattle.rules.specs.Lookups.{LinkChecked}
 use Rattle.rules.specs.Entries.{refusal_reply, Outputs, room_in}
 use Rattle.rules.proofs.Passed.{good_function, few_rows}
 use Rattle.rules.proofs.Reading.{rows_are}
@@ -34,7 +33,7 @@ use Rattle.rules.proofs.Unfolds.{append_unfolds}
 use Rattle.linker.specs.declared.State.{State}
 use Rattle.linker.specs.declared.Step.{Step}
 use Rattle.rules.specs.Lent.{Buffers, buffers, lent_by}
-use Rattle.linker.specs.Linker.{start_number, tally, unplaced, Valid, Grown, Holds, Passed, Agrees, adding, visiting, placing, Asks, Gives, Adds, Added, Placed, Visits, Visited, pointed_to}
+use Rattle.linker.specs.Linker.{start_number, tally, unplaced, Valid, Grown, Holds, Passed, Agrees, adding, visiting, placing, Asks, Adds, Added, Placed, Visits, Visited, pointed_to}
 use Rattle.linker.proofs.Pointing.{pointing, point_valid, point_holds, point_length}
 use Rattle.linker.proofs.Extending.{object_slots, Room, state_more, buffers_more, more_valid, more_holds, more_lengths}
 

@@ -16,7 +16,7 @@ use Rattle.rules.specs.declared.Judgement.TheVariants as judgement
 use Rattle.rules.specs.declared.Found.{Found}
 use Rattle.rules.specs.declared.Found.TheVariants.{At, Nothing}
 use Rattle.rules.specs.declared.Table.TheVariants.{Functions, Relocations, LineInfo}
-use Rattle.rules.specs.Object.{Meaning, meaning}
+use Rattle.rules.specs.Object.{meaning}
 use Rattle.rules.specs.Bytes.{little}
 use Rattle.rules.specs.Link.{refusal}
 use Rattle.rules.specs.Tables.{object_of}

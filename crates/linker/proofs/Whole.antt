@@ -2,14 +2,13 @@
 -- definition of the entry says.
 -- Assumes nothing.
 use mathlib.Core.Path.{◌≡◌, refl, sym, ap, subst, ◌∙◌}
-use mathlib.Core.Logic.{◌≢◌}
-use mathlib.Core.Bool.{Bool, true, false}
+use mathlib.Core.Bool.{true, false}
 use mathlib.Core.Option.{Option, none, some}
-use mathlib.Core.List.{List, [], ◌∷◌, ◌++◌, append-nil}
-use Prim.Native.Nat.{ℕ, zero, suc, ◌+◌, ◌*◌, ◌-◌, ◌/◌, ◌%◌, ◌≤◌, ◌<◌}
+use mathlib.Core.List.{List, [], ◌++◌, append-nil}
+use Prim.Native.Nat.{ℕ, ◌+◌, ◌*◌, ◌-◌, ◌≤◌, ◌<◌}
 use native.Mathlib.Omega.{arith}
 use native.Mathlib.Decide.{dec_lt}
-use lib.ListN.{length, get_or, take, drop, replicate, length-replicate, length-take, take-append-drop, get_or-replicate, get_or-eq_default}
+use lib.ListN.{length, get_or, take, drop, replicate, length-replicate, take-append-drop, get_or-replicate, get_or-eq_default}
 use lib.Seq.{length-take-le, get_or-take}
 use Rattle.rules.specs.declared.Answer.{Answer}
 use Rattle.rules.specs.declared.Answer.TheVariants.{Done, Refused}
@@ -19,12 +18,12 @@ use Rattle.rules.specs.declared.Table.TheVariants.{Functions}
 use Rattle.rules.specs.Bytes.{little, byte_at, splice, padded, decoded, encoded, AreBytes}
 use Rattle.rules.specs.Link as Link
 use Rattle.rules.specs.Link.{Refusal, refusal, Outcome, linked, refuses, unfinished, run, start_of, slots_of, root_only, unless, visit, link}
-use Rattle.rules.specs.Tables.{Tables, function_records_of, lines_of, object_of}
-use Rattle.rules.specs.Records.{image_functions, image_lines, admits, root_admits, link_step}
+use Rattle.rules.specs.Tables.{function_records_of, lines_of, object_of}
+use Rattle.rules.specs.Records.{image_functions, image_lines, root_admits, link_step}
 use Rattle.rules.specs.Answers.{Reply, reply, number_of, reply_of, refused_reply, refusal_in}
-use Rattle.rules.specs.Rows.{whole_rows, summed, Offered, function_slots, function_func_info, function_line_info, func_info_row, line_info_row, tables_of, most_image_slots, link_refusal, most_rows}
+use Rattle.rules.specs.Rows.{whole_rows, summed, Offered, function_slots, function_func_info, function_line_info, func_info_row, line_info_row, tables_of, link_refusal, most_rows}
 use Rattle.rules.specs.Lookups.{LinkChecked}
-use Rattle.rules.specs.Entries.{func_info_bytes, line_info_bytes, refusal_reply, Outputs, room_in, LinkResult, refused_link, accepted_link, by_outcome, unless_link_refused, link_entry}
+use Rattle.rules.specs.Entries.{func_info_bytes, line_info_bytes, refusal_reply, room_in, refused_link, by_outcome, unless_link_refused, link_entry}
 use Rattle.rules.proofs.Refusing as Refusing
 use Rattle.rules.proofs.Replies as Replies
 use Rattle.rules.proofs.Splices.{splice_length, splice_front}
@@ -37,10 +36,10 @@ use Rattle.linker.specs.declared.Step.{Step}
 use Rattle.linker.specs.declared.Linked.{Linked}
 use Rattle.merge.specs.declared.Used.{Used}
 use Rattle.rules.specs.Lent.{Buffers, buffers, lent_by, parts_offer}
-use Rattle.linker.specs.Linker.{start_number, Valid, Holds, Passed, Agrees, adding, visiting, Asks, Gives, Visits, Visited, Starts, Outcomes, Accounts, Ended, step_result, StartedOutcomes}
+use Rattle.linker.specs.Linker.{Valid, Holds, Passed, Agrees, visiting, Visits, Visited, Starts, Outcomes, Accounts, Ended, step_result, StartedOutcomes}
 use Rattle.merge.specs.Merge.{slot_bytes, func_rows, line_rows, room_bytes, PartBegins, unused, Begins, Begun}
 use Rattle.merge.proofs.Checked.{checked_parts}
-use Rattle.linker.proofs.Extending.{slots_inside, funcs_inside, lines_inside, slots_long, slots_are, own_functions, own_lines, object_slots, rest_next, Room}
+use Rattle.linker.proofs.Extending.{slots_long, slots_are, own_functions, own_lines, object_slots, rest_next, Room}
 use Rattle.linker.proofs.Admitting.{room_passes, room_fails, room_of}
 
 -- zeros everywhere

@@ -1,17 +1,16 @@
 -- What the linker's contracts say: the image's buffers hold a state of the link step (rules, specs/Link), and each function takes
 -- one such state to the next.
 -- Assumes nothing.
-use Rattle.std.specs.Prelude.{◌≡◌, ◌≢◌, Bool, true, false, List, [], ◌∷◌, ℕ, zero, suc, ◌+◌, ◌-◌, ◌*◌, ◌≤◌, ◌<◌, eqb, length, get_or, take, drop, replicate}
+use Rattle.std.specs.Prelude.{◌≡◌, ◌≢◌, Bool, true, false, List, [], ◌∷◌, ℕ, suc, ◌+◌, ◌-◌, ◌*◌, ◌≤◌, ◌<◌, eqb, length, get_or, take, drop, replicate}
 use Rattle.std.proofs.Math.Option.{Option, none, some}
 use Rattle.rules.specs.declared.Answer.{Answer}
-use Rattle.rules.specs.declared.Judgement.{Judgement}
 use Rattle.rules.specs.declared.Table.TheVariants.{Functions, Instructions, FuncInfo, LineInfo}
-use Rattle.rules.specs.Object.{Object, displacement}
+use Rattle.rules.specs.Object.{displacement}
 use Rattle.rules.specs.Faithful.{Piece}
 use Rattle.rules.specs.Bytes.{little, decoded, immediate_stored, source_stored}
 use Rattle.rules.specs.Link as Link
 use Rattle.rules.specs.Link.{Outcome, linked, refuses, unfinished, start_of, visit, append}
-use Rattle.rules.specs.Tables.{Tables, object_of}
+use Rattle.rules.specs.Tables.{object_of}
 use Rattle.rules.specs.Records.{image_functions, image_lines, admits, link_step}
 use Rattle.rules.specs.Answers.{reply_of, refusal_in}
 use Rattle.rules.specs.Lent.{Buffers, lent_by}

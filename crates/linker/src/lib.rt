@@ -1,5 +1,6 @@
 // The link step (the crate's FunctionLinker): the root first, then each callee where it is first met, depth first.
 #![tactic(auto)]
+
 ghost use Rattle.std.specs.Prelude.{◌≡◌, ◌+◌, ◌*◌, ◌≤◌, ◌<◌, length};
 ghost use Rattle.rules.specs.Bytes.{little, slot_size};
 ghost use Rattle.rules.specs.Lent.{offered, lent, outputs, lent_outputs, lent_by};

@@ -1,5 +1,6 @@
 // Table 2 lent as a slice of rows: searched by index with the byte table's answers, and laid out as that byte table.
 #![tactic(auto)]
+
 ghost use Rattle.std.specs.Prelude.{◌≡◌, ◌+◌, ◌*◌, ◌≤◌, length};
 ghost use Rattle.rules.specs.declared.Table.TheVariants.{Symbols};
 ghost use Rattle.rules.specs.Bytes.{splice};

@@ -1,0 +1,18 @@
+-- The invariant: nothing is wrong with the records before record j, so what is left to look at gives what was asked.
+use mathlib.Core.Path.{◌≡◌}
+use mathlib.Core.Option.{Option}
+use Prim.Native.Nat.{ℕ, ◌-◌, ◌≤◌}
+use Rattle.rules.specs.Answers.{Reply}
+use Rattle.rules.specs.Examine.{first_wrong}
+use Rattle.examine.specs.Recorded.{func_wrong}
+use Rattle.examine.proofs.records.check_funcs.Given as goal
+
+pub record Looked (wrong : ℕ → Option Reply) (count j : ℕ) : Type 0 where
+  pub most : j ≤ count
+  pub same : first_wrong wrong 0 count ≡ first_wrong wrong j (count - j)
+
+abbrev pub invariant-loop-j : goal.invariant-loop-j
+invariant-loop-j l = Looked (func_wrong l.func_info l.first l.shown l.at l.k l.start.0) l.count l.j
+
+abbrev pub decreases-loop-j : goal.decreases-loop-j
+decreases-loop-j l = l.count - l.j
