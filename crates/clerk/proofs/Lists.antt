@@ -17,7 +17,7 @@ use Rattle.rules.proofs.RowBytes.{pieces_length}
 use Rattle.rules.proofs.Listing.{by_pieces_entry, list_fits}
 use Rattle.linker.specs.Linker.{ListedOutcomes}
 use Rattle.linker.specs.declared.Listed.{Listed}
-use Rattle.io.specs.Counts.{IsPrefixLen}
+use Rattle.clerk.specs.Counts.{IsPrefixLen}
 use Rattle.clerk.specs.declared.steps.Made.{Made}
 use Rattle.clerk.specs.Steps.{MadeBy}
 
