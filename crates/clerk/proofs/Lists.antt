@@ -7,7 +7,6 @@ use native.Mathlib.Omega.{arith}
 use lib.ListN.{length, take}
 use lib.Seq.{length-take-le}
 use Rattle.rules.specs.Bytes.{little}
-use Rattle.rules.specs.Faithful.{Piece}
 use Rattle.rules.specs.Rows.{Offered}
 use Rattle.rules.specs.Lent.{Buffers}
 use Rattle.rules.specs.Entries.{Outputs, PiecesResult, link_pieces_entry}
@@ -17,8 +16,6 @@ use Rattle.rules.proofs.RowBytes.{pieces_length}
 use Rattle.rules.proofs.Listing.{by_pieces_entry, list_fits}
 use Rattle.linker.specs.Linker.{ListedOutcomes}
 use Rattle.linker.specs.declared.Listed.{Listed}
-use Rattle.clerk.specs.Counts.{IsPrefixLen}
-use Rattle.clerk.specs.declared.steps.Made.{Made}
 use Rattle.clerk.specs.Steps.{MadeBy}
 
 module _ (o : Offered) (root : ℕ) (lent : Outputs) (size : ℕ) where
