@@ -13,7 +13,7 @@ use Rattle.rules.specs.Records.{image_functions, image_lines, admits, link_step,
 use Rattle.equality.specs.Crate as Crate
 use Rattle.equality.specs.Crate.{u32, u64, i32, add_u64, mul_u64, add_u32, sub_u32, add_i32, sub_i32, insn_is_call, relocate_map, relocate_maps, relocate_functions, object_relocate_maps, slot_of, relocate_from, relocate, link_new, relocate_calls}
 use Rattle.equality.specs.Domain.{crate_of, cause_of}
-use Rattle.equality.specs.Demand2.{both_steps, Answer, image, refusal, endless, our_steps, Clause, valid_tables, compared_only, one_refusable, five_not_text, five_no_map, map_alone, Call-Below, reference_below, callees_differ, function_count, line_count}
+use Rattle.equality.specs.Demand2.{both_steps, Answer, image, refusal, endless, our_steps, Clause, valid_tables, compared_only, one_refusable, five_not_text, five_no_map, map_alone, call_below, reference_below, callees_differ, function_count, line_count}
 use Rattle.equality.proofs.Inputs.{Input, insn, exits, calls, next, inputs_for}
 use Rattle.equality.proofs.Needed.{Seen, gives, errs, panicked, seen_crate, ours, crate}
 
@@ -57,7 +57,7 @@ answers_to one_refusable = (errs Crate.unknown_symbol ∷ errs Crate.invalid_rel
 answers_to five_not_text = (errs Crate.section_not_found ∷ errs Crate.unknown_function ∷ []) ∷ []
 answers_to five_no_map = (errs Crate.section_not_found ∷ loaded 7 0 ∷ []) ∷ []
 answers_to map_alone = (loaded 7 0 ∷ loaded 6 0 ∷ []) ∷ []
-answers_to Call-Below = (gives (calls (pos 0) ∷ exits ∷ []) 0 0 ∷ errs Crate.unknown_function ∷ []) ∷ []
+answers_to call_below = (gives (calls (pos 0) ∷ exits ∷ []) 0 0 ∷ errs Crate.unknown_function ∷ []) ∷ []
 answers_to reference_below = (gives (insn 0x18 1 4 (pos 1) ∷ next ∷ exits ∷ []) 0 0 ∷ errs Crate.unknown_function ∷ []) ∷ []
 answers_to callees_differ = (gives (calls (pos 1) ∷ calls (pos 1) ∷ exits ∷ exits ∷ []) 0 0 ∷ gives (calls (pos 1) ∷ calls (pos 0) ∷ exits ∷ []) 0 0 ∷ []) ∷ []
 answers_to function_count = (gives (exits ∷ []) 1 0 ∷ gives (exits ∷ []) 5 0 ∷ []) ∷ []
@@ -71,7 +71,7 @@ answered one_refusable = refl
 answered five_not_text = refl
 answered five_no_map = refl
 answered map_alone = refl
-answered Call-Below = refl
+answered call_below = refl
 answered reference_below = refl
 answered callees_differ = refl
 answered function_count = refl

@@ -23,7 +23,7 @@ use Rattle.rules.specs.Rows.{most_image_slots, most_image_functions, most_image_
 use Rattle.rules.specs.Records.{Room}
 use Rattle.rules.proofs.Passed.{and_left, and_right}
 use Rattle.equality.specs.Domain.{2⁴⁸, Limits, reached, Compared, top_immediate, CallsBelow, ReferencesBelow, CalleesDiffer, FunctionCount, LineCount, Once, Orders, Alone, OneRefusable, Fives, with_instructions}
-use Rattle.equality.specs.Demand2.{Answer, image, refusal, endless, our_steps, Valid, ComparedOnly, AfterMaps, Clause, valid_tables, compared_only, one_refusable, five_not_text, five_no_map, map_alone, Call-Below, reference_below, callees_differ, function_count, line_count, Holds, Domain, Except}
+use Rattle.equality.specs.Demand2.{Answer, image, refusal, endless, our_steps, Valid, ComparedOnly, AfterMaps, Clause, valid_tables, compared_only, one_refusable, five_not_text, five_no_map, map_alone, call_below, reference_below, callees_differ, function_count, line_count, Holds, Domain, Except}
 use Rattle.equality.proofs.MapsCrate.{first_found}
 use Rattle.equality.proofs.Perms.{perm_refl, only_perm}
 use Rattle.equality.proofs.Valid.{whole_table}
@@ -398,7 +398,7 @@ test one_refusable i = few (refused_tasks i.tables)
 test five_not_text i = fives_test i.tables (λ s home. other_kind s.kind)
 test five_no_map i = fives_test i.tables (λ s home. elsewhere i.tables.maps home)
 test map_alone i = alone_test i.tables.maps
-test Call-Below i = of_outcome i.tables calls_test (map_step i.tables)
+test call_below i = of_outcome i.tables calls_test (map_step i.tables)
 test reference_below i = of_outcome i.tables references_test (map_step i.tables)
 test callees_differ i = of_outcome i.tables (λ t. differ_test t (reached t i.room i.root)) (map_step i.tables)
 test function_count i = of_outcome i.tables (λ t. eqb i.func_num (length (function_records_of t i.root))) (map_step i.tables)
@@ -413,7 +413,7 @@ test_holds i five_no_map e =
     fives_by i.tables (λ s home. elsewhere i.tables.maps home) (λ s home. (m : MapRow) → Memᴰ m i.tables.maps → m.home ≢ home)
     (λ s home. no_map_by i.tables.maps home) e
 test_holds i map_alone e = alone_by i.tables e
-test_holds i Call-Below e = after_by i.tables calls_test CallsBelow calls_by e
+test_holds i call_below e = after_by i.tables calls_test CallsBelow calls_by e
 test_holds i reference_below e = after_by i.tables references_test ReferencesBelow references_by e
 test_holds i callees_differ e =
     after_by i.tables (λ t. differ_test t (reached t i.room i.root)) (λ t. CalleesDiffer t i.room i.root) (λ t. differ_by t i.room i.root) e
@@ -429,7 +429,7 @@ input_orders i = record { order = λ home. only_perm (λ r. eqb r.home home) i.r
 
 -- the clauses by number, so that all but one are one test
 abbrev clauses : List Clause
-clauses = valid_tables ∷ compared_only ∷ one_refusable ∷ five_not_text ∷ five_no_map ∷ map_alone ∷ Call-Below ∷ reference_below ∷ callees_differ ∷ function_count ∷ line_count ∷ []
+clauses = valid_tables ∷ compared_only ∷ one_refusable ∷ five_not_text ∷ five_no_map ∷ map_alone ∷ call_below ∷ reference_below ∷ callees_differ ∷ function_count ∷ line_count ∷ []
 
 abbrev number_of : Clause → ℕ
 number_of valid_tables = 0
@@ -438,7 +438,7 @@ number_of one_refusable = 2
 number_of five_not_text = 3
 number_of five_no_map = 4
 number_of map_alone = 5
-number_of Call-Below = 6
+number_of call_below = 6
 number_of reference_below = 7
 number_of callees_differ = 8
 number_of function_count = 9
@@ -454,7 +454,7 @@ numbered one_refusable = refl
 numbered five_not_text = refl
 numbered five_no_map = refl
 numbered map_alone = refl
-numbered Call-Below = refl
+numbered call_below = refl
 numbered reference_below = refl
 numbered callees_differ = refl
 numbered function_count = refl
@@ -467,7 +467,7 @@ each passes e one_refusable = member_at passes valid_tables clauses e 2 (omega a
 each passes e five_not_text = member_at passes valid_tables clauses e 3 (omega arith)
 each passes e five_no_map = member_at passes valid_tables clauses e 4 (omega arith)
 each passes e map_alone = member_at passes valid_tables clauses e 5 (omega arith)
-each passes e Call-Below = member_at passes valid_tables clauses e 6 (omega arith)
+each passes e call_below = member_at passes valid_tables clauses e 6 (omega arith)
 each passes e reference_below = member_at passes valid_tables clauses e 7 (omega arith)
 each passes e callees_differ = member_at passes valid_tables clauses e 8 (omega arith)
 each passes e function_count = member_at passes valid_tables clauses e 9 (omega arith)

@@ -6,7 +6,7 @@ use native.Mathlib.Omega.{arith}
 use Rattle.rules.specs.Tables.{Tables}
 use Rattle.rules.specs.Records.{Room}
 use Rattle.equality.specs.Domain.{Hidden, MapClauses, CallDomain}
-use Rattle.equality.specs.Demand2.{Valid, ComparedOnly, AfterMaps, Clause, valid_tables, compared_only, one_refusable, five_not_text, five_no_map, map_alone, Call-Below, reference_below, callees_differ, function_count, line_count, Holds, Domain, Except}
+use Rattle.equality.specs.Demand2.{Valid, ComparedOnly, AfterMaps, Clause, valid_tables, compared_only, one_refusable, five_not_text, five_no_map, map_alone, call_below, reference_below, callees_differ, function_count, line_count, Holds, Domain, Except}
 
 module _ {tables : Tables} {hidden : Hidden} {room : Room} {root : ℕ} where
   pub map_clauses : Domain tables hidden room root → MapClauses tables hidden
@@ -20,7 +20,7 @@ module _ {tables : Tables} {hidden : Hidden} {room : Room} {root : ℕ} where
 
   pub call_clauses : Domain tables hidden room root → AfterMaps tables (λ after. CallDomain after hidden room root)
   call_clauses d instructions count e = record {
-    calls = d.holds Call-Below tt instructions count e;
+    calls = d.holds call_below tt instructions count e;
     references = d.holds reference_below tt instructions count e;
     differ = d.holds callees_differ tt instructions count e;
     func_num = d.holds function_count tt instructions count e;
@@ -38,7 +38,7 @@ module _ {tables : Tables} {hidden : Hidden} {room : Room} {root : ℕ} where
       each five_not_text = maps.not_text
       each five_no_map = maps.no_map
       each map_alone = maps.alone
-      each Call-Below = λ instructions count e. (calls instructions count e).calls
+      each call_below = λ instructions count e. (calls instructions count e).calls
       each reference_below = λ instructions count e. (calls instructions count e).references
       each callees_differ = λ instructions count e. (calls instructions count e).differ
       each function_count = λ instructions count e. (calls instructions count e).func_num
@@ -55,7 +55,7 @@ module _ {tables : Tables} {hidden : Hidden} {room : Room} {root : ℕ} where
       each five_not_text = d.holds five_not_text (λ e. let z : ◌≡◌ {A = ℕ} 0 1 = cc in omega arith)
       each five_no_map = d.holds five_no_map (λ e. let z : ◌≡◌ {A = ℕ} 0 1 = cc in omega arith)
       each map_alone = d.holds map_alone (λ e. let z : ◌≡◌ {A = ℕ} 0 1 = cc in omega arith)
-      each Call-Below = d.holds Call-Below (λ e. let z : ◌≡◌ {A = ℕ} 0 1 = cc in omega arith)
+      each call_below = d.holds call_below (λ e. let z : ◌≡◌ {A = ℕ} 0 1 = cc in omega arith)
       each reference_below = d.holds reference_below (λ e. let z : ◌≡◌ {A = ℕ} 0 1 = cc in omega arith)
       each callees_differ = d.holds callees_differ (λ e. let z : ◌≡◌ {A = ℕ} 0 1 = cc in omega arith)
       each function_count = d.holds function_count (λ e. let z : ◌≡◌ {A = ℕ} 0 1 = cc in omega arith)

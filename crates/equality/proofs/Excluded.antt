@@ -16,7 +16,7 @@ use Rattle.rules.specs.Maps.{task, judge, first_refusal, applied, rewrite_all, m
 use Rattle.rules.specs.Records.{image_functions, image_lines, admits, room_for, stray_line}
 use Rattle.equality.specs.Met.{visit_met, append_met, link_met}
 use Rattle.equality.specs.Domain.{Compared, reached}
-use Rattle.equality.specs.Demand2.{our_steps, Clause, valid_tables, compared_only, one_refusable, five_not_text, five_no_map, map_alone, Call-Below, reference_below, callees_differ, function_count, line_count, Holds}
+use Rattle.equality.specs.Demand2.{our_steps, Clause, valid_tables, compared_only, one_refusable, five_not_text, five_no_map, map_alone, call_below, reference_below, callees_differ, function_count, line_count, Holds}
 use Rattle.equality.proofs.Inputs.{Input, hidden_of, symbol, relocation, map_row, exits, calls, load, next, symbol_twice, six, two_refusable, five_by_text, five_with_map, not_alone, call_at_top, reference_at_top, one_address, functions_miscounted, lines_miscounted}
 
 abbrev Outside : Clause → Input → Type 0
@@ -59,7 +59,7 @@ excluded_not_alone h =
     h (map_row 5 none 7 false) (map_row 5 (some 8) 6 false) (Memᴰ.head refl) (Memᴰ.tail (Memᴰ.head refl)) refl refl in
     let fds : ◌≡◌ (pos 6) (pos 7) = ap (λ m. m.fd) same in let z : ◌≡◌ {A = ℕ} 6 7 = cc in omega arith
 
-pub excluded_call : Outside Call-Below call_at_top
+pub excluded_call : Outside call_below call_at_top
 unfolding is_call judge first_refusal applied rewrite_all map_step
 excluded_call h = h (calls (pos 0x7fff_ffff) ∷ exits ∷ []) 0 refl 0 0 (omega arith) refl refl
 

@@ -12,7 +12,7 @@ use Rattle.rules.specs.Tables.{SymbolKind, other, text, section, Symbol, Functio
 use Rattle.rules.specs.Maps.{only}
 use Rattle.rules.specs.Records.{Room}
 use Rattle.equality.specs.Domain.{Hidden, Perm, swap}
-use Rattle.equality.specs.Demand2.{Clause, valid_tables, compared_only, one_refusable, five_not_text, five_no_map, map_alone, Call-Below, reference_below, callees_differ, function_count, line_count}
+use Rattle.equality.specs.Demand2.{Clause, valid_tables, compared_only, one_refusable, five_not_text, five_no_map, map_alone, call_below, reference_below, callees_differ, function_count, line_count}
 use Rattle.equality.proofs.Perms.{perm_refl}
 
 -- tables, with table 4 in the crate's order, and each function's two `num_info`
@@ -270,7 +270,7 @@ inputs_for one_refusable = two_refusable ∷ []
 inputs_for five_not_text = five_by_text ∷ []
 inputs_for five_no_map = five_with_map ∷ []
 inputs_for map_alone = not_alone ∷ []
-inputs_for Call-Below = call_at_top ∷ []
+inputs_for call_below = call_at_top ∷ []
 inputs_for reference_below = reference_at_top ∷ []
 inputs_for callees_differ = one_address ∷ []
 inputs_for function_count = functions_miscounted ∷ []

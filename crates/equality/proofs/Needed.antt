@@ -21,7 +21,7 @@ use Rattle.equality.specs.Met.{visit_met, append_met, link_met}
 use Rattle.equality.specs.Crate as Crate
 use Rattle.equality.specs.Crate.{u32, u64, i32, add_u64, mul_u64, add_u32, sub_u32, add_i32, sub_i32, insn_is_call, Result, ok, err, panics, too_deep, Error, Linker, relocate_map, relocate_maps, relocate_functions, object_relocate_maps, slot_of, relocate_from, relocate, link_new, relocate_calls}
 use Rattle.equality.specs.Domain.{crate_of, cause_of, reached}
-use Rattle.equality.specs.Demand2.{both_steps, with_functions, Answer, image, refusal, endless, by_link, our_steps, Clause, valid_tables, compared_only, one_refusable, five_not_text, five_no_map, map_alone, Call-Below, reference_below, callees_differ, function_count, line_count, Domain, Except, Equal, EqualWithin}
+use Rattle.equality.specs.Demand2.{both_steps, with_functions, Answer, image, refusal, endless, by_link, our_steps, Clause, valid_tables, compared_only, one_refusable, five_not_text, five_no_map, map_alone, call_below, reference_below, callees_differ, function_count, line_count, Domain, Except, Equal, EqualWithin}
 use Rattle.equality.proofs.Inputs.{Input, hidden_of, full_room, symbol, relocation, map_row, unknown_symbol, two_programs, found_by_section, inputs_for}
 use Rattle.equality.proofs.Checks.{allb, all_member, test_but, except_by, domain_by}
 
@@ -128,7 +128,7 @@ others one_refusable = refl
 others five_not_text = refl
 others five_no_map = refl
 others map_alone = refl
-others Call-Below = refl
+others call_below = refl
 others reference_below = refl
 others callees_differ = refl
 others function_count = refl
@@ -143,7 +143,7 @@ apart one_refusable = refl
 apart five_not_text = refl
 apart five_no_map = refl
 apart map_alone = refl
-apart Call-Below = refl
+apart call_below = refl
 apart reference_below = refl
 apart callees_differ = refl
 apart function_count = refl
@@ -175,7 +175,7 @@ none_dropped one_refusable = first_needed one_refusable _ (needed one_refusable 
 none_dropped five_not_text = first_needed five_not_text _ (needed five_not_text _ (Memᴰ.head refl))
 none_dropped five_no_map = first_needed five_no_map _ (needed five_no_map _ (Memᴰ.head refl))
 none_dropped map_alone = first_needed map_alone _ (needed map_alone _ (Memᴰ.head refl))
-none_dropped Call-Below = first_needed Call-Below _ (needed Call-Below _ (Memᴰ.head refl))
+none_dropped call_below = first_needed call_below _ (needed call_below _ (Memᴰ.head refl))
 none_dropped reference_below = first_needed reference_below _ (needed reference_below _ (Memᴰ.head refl))
 none_dropped callees_differ = first_needed callees_differ _ (needed callees_differ _ (Memᴰ.head refl))
 none_dropped function_count = first_needed function_count _ (needed function_count _ (Memᴰ.head refl))

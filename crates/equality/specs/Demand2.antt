@@ -71,7 +71,7 @@ AfterMaps tables Said = (instructions : List Insn) (count : ℕ) → map_step ta
 
 -- the domain's clauses, by name
 pub data Clause : Type 0 where
-  valid_tables compared_only one_refusable five_not_text five_no_map map_alone Call-Below reference_below callees_differ function_count line_count : Clause
+  valid_tables compared_only one_refusable five_not_text five_no_map map_alone call_below reference_below callees_differ function_count line_count : Clause
 
 abbrev pub Holds : Clause → Tables → Hidden → Room → ℕ → Type 0
 Holds valid_tables tables hidden room root = Valid tables room root
@@ -80,7 +80,7 @@ Holds one_refusable tables hidden room root = OneRefusable tables
 Holds five_not_text tables hidden room root = FiveNotText tables
 Holds five_no_map tables hidden room root = FiveNoMap tables
 Holds map_alone tables hidden room root = Alone tables
-Holds Call-Below tables hidden room root = AfterMaps tables CallsBelow
+Holds call_below tables hidden room root = AfterMaps tables CallsBelow
 Holds reference_below tables hidden room root = AfterMaps tables ReferencesBelow
 Holds callees_differ tables hidden room root = AfterMaps tables (λ after. CalleesDiffer after room root)
 Holds function_count tables hidden room root = AfterMaps tables (λ after. FunctionCount after hidden root)

@@ -11,8 +11,8 @@ use Rattle.info.proofs.Whole.{next, grid_step}
 use Rattle.info.proofs.on_grid.Goals as goal
 
 -- the offset tested is that of record k
-at-record : (bytes : List ℕ) {at place : ℕ} → at ≡ place → eqb (u32_at little bytes at % 8) 0 ≡ eqb (u32_at little bytes place % 8) 0
-at-record bytes e = ap (λ (n : ℕ). eqb (u32_at little bytes n % 8) 0) e
+at_record : (bytes : List ℕ) {at place : ℕ} → at ≡ place → eqb (u32_at little bytes at % 8) 0 ≡ eqb (u32_at little bytes place % 8) 0
+at_record bytes e = ap (λ (n : ℕ). eqb (u32_at little bytes n % 8) 0) e
 
 pub loop-k-preserved : goal.loop-k-preserved
 loop-k-preserved c =
@@ -22,6 +22,6 @@ loop-k-preserved c =
         ap (λ (v : ℕ). v + a.size) c.loop-k.invariant.1.0 ∙ next a.size c.loop-k.k,
         c.loop-k.invariant.1.1
             ∙ grid_step little (given a.size a.count a.bytes.now) c.loop-k.k a.count (omega arith)
-            (sym (c.is_slot_at.ensures ∙ at-record a.bytes.now c.loop-k.invariant.1.0) ∙ not-false _ c.if-not-is_slot_at.false-raw),
+            (sym (c.is_slot_at.ensures ∙ at_record a.bytes.now c.loop-k.invariant.1.0) ∙ not-false _ c.if-not-is_slot_at.false-raw),
       ),
     )

@@ -14,17 +14,17 @@ use Rattle.judge.proofs.by_data.Goals as goal
 abbrev sum : After-fits → ℤ
 sum f = f.args.site.imm +ℤ pos f.args.address.0
 
-with-data : (f : After-fits) → map_has_data f.args.maps.now f.args.m ≡ with_data
-with-data f = sym f.map_has_data.ensures ∙ f.if-map_has_data-ne-HAS_DATA.false
+with_data_lem : (f : After-fits) → map_has_data f.args.maps.now f.args.m ≡ with_data
+with_data_lem f = sym f.map_has_data.ensures ∙ f.if-map_has_data-ne-HAS_DATA.false
 
 sum_is : (v : After-value-sum) → to_z w64 (of_z w64 v.value-sum.result) ≡ v.args.site.imm +ℤ pos v.args.address.0
 sum_is v =
     to_z-of_z w64 _ (record { sfits = v.value-sum.type_inv }) ∙ v.value-sum.ensures ∙ ap (λ z. z +ℤ pos v.args.address.0) (to_z-of_z w32 v.args.site.imm (record { sfits = v.type_inv.site.1.1.1.0.1 }))
 
-fits-is : (f : After-fits) → fits32 (sum f) ≡ f.fits.result
-fits-is f = sym (f.fits.ensures ∙ ap fits32 (sum_is (goal.at.After-fits f).After-value-sum))
+fits_is : (f : After-fits) → fits32 (sum f) ≡ f.fits.result
+fits_is f = sym (f.fits.ensures ∙ ap fits32 (sum_is (goal.at.After-fits f).After-value-sum))
 
 pub returns-then-not-fits : goal.returns-then-not-fits
 returns-then-not-fits c =
     let f = (goal.at.returns-then-not-fits c).After-fits in
-    outside_says c.args.maps.now c.args.m c.args.address.0 c.args.site (with-data f) (fits-is f ∙ not-true _ c.if-not-fits.true-raw) _ c.refused.ensures
+    outside_says c.args.maps.now c.args.m c.args.address.0 c.args.site (with_data_lem f) (fits_is f ∙ not-true _ c.if-not-fits.true-raw) _ c.refused.ensures

@@ -15,10 +15,10 @@ refuses {row} {slot} p e =
     let n = ap (λ (x : Reply). x.number) (sym p) in
     record { refusal = e ∙ ap refused n; places = p ∙ ap (λ (k : ℕ). reply k row slot 0) n }
 
-not-called : (wide : Bool) → decide false wide nothing ≡ copied
+not_called : (wide : Bool) → decide false wide nothing ≡ copied
 unfolding decide
-not-called true = refl
-not-called false = refl
+not_called true = refl
+not_called false = refl
 
 always : (calls wide : Bool) (number : ℕ) → decide calls wide (unclear number) ≡ refused number
 unfolding decide
@@ -27,7 +27,7 @@ always false true number = refl
 always false false number = refl
 
 pub returns-then-not-is_call : goal.returns-then-not-is_call
-returns-then-not-is_call c = rw (c.in-Nothing.is, not-true c.args.is_call c.if-not-is_call.true-raw) (not-called _)
+returns-then-not-is_call c = rw (c.in-Nothing.is, not-true c.args.is_call c.if-not-is_call.true-raw) (not_called _)
 
 pub returns-in-Nothing : goal.returns-in-Nothing
 unfolding decide

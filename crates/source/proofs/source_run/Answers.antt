@@ -44,18 +44,18 @@ before n = frames_of n.loop-k.frame_rows n.loop-k.frame_slots
 abbrev after : After-source_step-next → Lent
 after n = frames_of n.source_step-next.new.frame_rows n.source_step-next.new.frame_slots
 
-abbrev stood-at : After-source_step-next → Walk SourcePlace
-stood-at n =
+abbrev stood_at : After-source_step-next → Walk SourcePlace
+stood_at n =
     let l = n.loop-k in
     walk_from source_frames (before n) n.args.answers.now (place l.row (to_z w64 l.at-bits)) l.depth l.taken
 
-rows-after : (n : After-source_step-next) → length (after n).rows ≡ length n.args.frame_rows.now
-rows-after n =
-    ap (λ (l : Lent). length l.rows) n.source_step-next.ensures.frames_are ∙ rows_kept (look (goal.at.After-source_step-next n).Start) (before n) (stood-at n) ∙ n.loop-k.invariant.1.0
+rows_after : (n : After-source_step-next) → length (after n).rows ≡ length n.args.frame_rows.now
+rows_after n =
+    ap (λ (l : Lent). length l.rows) n.source_step-next.ensures.frames_are ∙ rows_kept (look (goal.at.After-source_step-next n).Start) (before n) (stood_at n) ∙ n.loop-k.invariant.1.0
 
-slots-after : (n : After-source_step-next) → length (after n).slots ≡ length n.args.frame_slots.now
-slots-after n =
-    ap (λ (l : Lent). length l.slots) n.source_step-next.ensures.frames_are ∙ slots_kept (look (goal.at.After-source_step-next n).Start) (before n) (stood-at n) ∙ n.loop-k.invariant.1.1.0
+slots_after : (n : After-source_step-next) → length (after n).slots ≡ length n.args.frame_slots.now
+slots_after n =
+    ap (λ (l : Lent). length l.slots) n.source_step-next.ensures.frames_are ∙ slots_kept (look (goal.at.After-source_step-next n).Start) (before n) (stood_at n) ∙ n.loop-k.invariant.1.1.0
 
 abbrev RanTo : After-source_step-next → SourceStand → Type 0
 RanTo n q =
@@ -106,7 +106,7 @@ loop-k-preserved c =
       rw (add-one c.loop-k.k, to_z-of_z w64 z (record { sfits = c.in-Standing.known_told-1-own.given.1.0.1 }))
           (goes_on source_frames (look (goal.at.loop-k-preserved c).Start) (place c.args.root (pos 0)) c.args.answers.now (lent₀ (goal.at.loop-k-preserved c).Start) source_laws c.loop-k.invariant.0 c.source_step-next.ensures
           (place c.in-Standing.to z) c.in-Standing.used c.in-Standing.told (ap stood_of c.in-Standing.is)),
-      (rows-after (goal.at.loop-k-preserved c).After-source_step-next, (slots-after (goal.at.loop-k-preserved c).After-source_step-next, omega (arith, c.loop-k-test.true))),
+      (rows_after (goal.at.loop-k-preserved c).After-source_step-next, (slots_after (goal.at.loop-k-preserved c).After-source_step-next, omega (arith, c.loop-k-test.true))),
     )
 
 pub returns : goal.returns

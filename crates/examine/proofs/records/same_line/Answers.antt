@@ -23,8 +23,8 @@ here s = line_of s.args.k s.args.origin s.args.start.0 (source s)
 same_slots : (c : Else-line_info_slot-line_slot) → (there (goal.at.Else-line_info_slot-line_slot c).Start).slot ≡ (here (goal.at.Else-line_info_slot-line_slot c).Start).slot
 same_slots c = sym c.line_info_slot.ensures ∙ c.if-line_info_slot-line_slot.false ∙ c.line_slot.ensures
 
-same-files : (c : Else-line_info_file) → (there (goal.at.Else-line_info_file c).Start).file ≡ (here (goal.at.Else-line_info_file c).Start).file
-same-files c =
+same_files : (c : Else-line_info_file) → (there (goal.at.Else-line_info_file c).Start).file ≡ (here (goal.at.Else-line_info_file c).Start).file
+same_files c =
     let a = c.args in
     sym c.line_info_file.ensures ∙ c.if-line_info_file.false ∙ c.line_info_file-2.ensures ∙ line_file a.origin a.start.0 (source (goal.at.Else-line_info_file c).Start) a.k
 
@@ -45,7 +45,7 @@ returns-then-line_info_file c =
 pub returns-then-line_info_line : goal.returns-then-line_info_line
 returns-then-line_info_line c =
     let a = c.args in
-    line_lines_differ (there (goal.at.returns-then-line_info_line c).Start) (here (goal.at.returns-then-line_info_line c).Start) (same_slots (goal.at.returns-then-line_info_line c).Else-line_info_slot-line_slot) (same-files (goal.at.returns-then-line_info_line c).Else-line_info_file)
+    line_lines_differ (there (goal.at.returns-then-line_info_line c).Start) (here (goal.at.returns-then-line_info_line c).Start) (same_slots (goal.at.returns-then-line_info_line c).Else-line_info_slot-line_slot) (same_files (goal.at.returns-then-line_info_line c).Else-line_info_file)
     (λ e. c.if-line_info_line.true (c.line_info_line.ensures ∙ e ∙ sym (c.line_info_line-2.ensures ∙ line_line a.origin a.start.0 (source (goal.at.returns-then-line_info_line c).Start) a.k)))
 
 pub returns : goal.returns
@@ -53,4 +53,4 @@ returns c =
     let a = c.args in
     ap (λ (n : ℕ). eqb n c.line_info_column-2.result) c.line_info_column.ensures
     ∙ ap (eqb (there (goal.at.returns c).Start).column) (c.line_info_column-2.ensures ∙ line_column a.origin a.start.0 (source (goal.at.returns c).Start) a.k)
-    ∙ line_columns (there (goal.at.returns c).Start) (here (goal.at.returns c).Start) (same_slots (goal.at.returns c).Else-line_info_slot-line_slot) (same-files (goal.at.returns c).Else-line_info_file) (same_lines (goal.at.returns c).Else-line_info_line)
+    ∙ line_columns (there (goal.at.returns c).Start) (here (goal.at.returns c).Start) (same_slots (goal.at.returns c).Else-line_info_slot-line_slot) (same_files (goal.at.returns c).Else-line_info_file) (same_lines (goal.at.returns c).Else-line_info_line)

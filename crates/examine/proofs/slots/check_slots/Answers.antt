@@ -11,12 +11,12 @@ use Rattle.resolve.proofs.Slots.{first_low}
 use Rattle.examine.proofs.Firsts.{wrong_step, wrong_here, wrong_end}
 use Rattle.examine.proofs.Cursors.{before_rises}
 use Rattle.examine.proofs.Meanings.{slot_test, slots_are, callable_at, compares_at, judged_at, before_is, with_is}
-use Rattle.examine.proofs.slots.check_slots.Invariants.{tablesIn}
+use Rattle.examine.proofs.slots.check_slots.Invariants.{tables_in}
 use Rattle.examine.proofs.slots.check_slots.Goals.{After-check_slot-judged, After-place-at, After-relocation_at, In-loop-n, Start}
 use Rattle.examine.proofs.slots.check_slots.Goals as goal
 
 abbrev tables : Start → Offered
-tables s = tablesIn s.args.code.now s.args.symbols.now s.args.functions.now s.args.relocations.now s.args.instructions.now
+tables s = tables_in s.args.code.now s.args.symbols.now s.args.functions.now s.args.relocations.now s.args.instructions.now
 
 abbrev wrong : Start → ℕ → Option Reply
 wrong s = let a = s.args in slot_test (tables s) a.image.now a.pieces.now a.k a.row a.start.0

@@ -10,8 +10,8 @@ use Rattle.rules.specs.Examine.{first_wrong}
 use Rattle.examine.proofs.Meanings.{slot_test}
 use Rattle.examine.proofs.slots.check_slots.Given as goal
 
-abbrev pub tablesIn : List ℕ → List ℕ → List ℕ → List ℕ → List ℕ → Offered
-tablesIn code symbols functions relocations instructions = map_step_offer code symbols functions relocations [] instructions
+abbrev pub tables_in : List ℕ → List ℕ → List ℕ → List ℕ → List ℕ → Offered
+tables_in code symbols functions relocations instructions = map_step_offer code symbols functions relocations [] instructions
 
 pub record Looked (wrong : ℕ → Option Reply) (count n : ℕ) (relocations : List ℕ) (home place cursor : ℕ) : Type 0 where
   pub most : n ≤ count
@@ -20,7 +20,7 @@ pub record Looked (wrong : ℕ → Option Reply) (count n : ℕ) (relocations : 
 
 abbrev pub invariant-loop-n : goal.invariant-loop-n
 invariant-loop-n l =
-    Looked (slot_test (tablesIn l.code l.symbols l.functions l.relocations l.instructions) l.image l.pieces l.k l.row l.start.0) (function_slots l.functions l.row) l.n l.relocations
+    Looked (slot_test (tables_in l.code l.symbols l.functions l.relocations l.instructions) l.image l.pieces l.k l.row l.start.0) (function_slots l.functions l.row) l.n l.relocations
     (function_section l.functions l.row) (function_offset l.functions l.row + 8 * l.n) l.cursor
 
 abbrev pub decreases-loop-n : goal.decreases-loop-n

@@ -15,24 +15,24 @@ use Rattle.pieces.proofs.Tiling.{Left, tiles_start, tiles_on, tiles_unknown, til
 use Rattle.pieces.proofs.tiles.check_tiles.Goals.{After-function_slots-own, At-loop-k, Else-start-at}
 use Rattle.pieces.proofs.tiles.check_tiles.Goals as goal
 
-abbrev functions-of : At-loop-k → List ℕ
-functions-of l = l.args.functions.now
+abbrev functions_of : At-loop-k → List ℕ
+functions_of l = l.args.functions.now
 
-abbrev pieces-of : At-loop-k → List ℕ
-pieces-of l = l.args.pieces.now
+abbrev pieces_of : At-loop-k → List ℕ
+pieces_of l = l.args.pieces.now
 
 abbrev end_of_lem : At-loop-k → ℕ
 end_of_lem l = l.args.end.0
 
-row-known : (e : Else-start-at) → piece_row (pieces-of (goal.at.Else-start-at e).At-loop-k) e.loop-k.k < whole_rows Functions (functions-of (goal.at.Else-start-at e).At-loop-k)
-row-known e = omega (arith, e.if-rows-row.false, e.piece_row-row.ensures)
+row_known : (e : Else-start-at) → piece_row (pieces_of (goal.at.Else-start-at e).At-loop-k) e.loop-k.k < whole_rows Functions (functions_of (goal.at.Else-start-at e).At-loop-k)
+row_known e = omega (arith, e.if-rows-row.false, e.piece_row-row.ensures)
 
-row_slots : (c : After-function_slots-own) → c.function_slots-own.result.0 ≡ function_slots (functions-of (goal.at.After-function_slots-own c).At-loop-k) (piece_row (pieces-of (goal.at.After-function_slots-own c).At-loop-k) c.loop-k.k)
-row_slots c = c.function_slots-own.ensures ∙ ap (function_slots (functions-of (goal.at.After-function_slots-own c).At-loop-k)) c.piece_row-row.ensures
+row_slots : (c : After-function_slots-own) → c.function_slots-own.result.0 ≡ function_slots (functions_of (goal.at.After-function_slots-own c).At-loop-k) (piece_row (pieces_of (goal.at.After-function_slots-own c).At-loop-k) c.loop-k.k)
+row_slots c = c.function_slots-own.ensures ∙ ap (function_slots (functions_of (goal.at.After-function_slots-own c).At-loop-k)) c.piece_row-row.ensures
 
 few_slots : (c : After-function_slots-own) → c.function_slots-own.result.0 ≤ most_function_slots
 few_slots c =
-    omega (arith, row_slots c, (good_function (functions-of (goal.at.After-function_slots-own c).At-loop-k) c.requires.table (piece_row (pieces-of (goal.at.After-function_slots-own c).At-loop-k) c.loop-k.k) (row-known (goal.at.After-function_slots-own c).Else-start-at)).slots_high)
+    omega (arith, row_slots c, (good_function (functions_of (goal.at.After-function_slots-own c).At-loop-k) c.requires.table (piece_row (pieces_of (goal.at.After-function_slots-own c).At-loop-k) c.loop-k.k) (row_known (goal.at.After-function_slots-own c).Else-start-at)).slots_high)
 
 few_pieces : (l : At-loop-k) → l.loop-k.k ≤ most_image_slots
 few_pieces l = omega (arith, l.loop-k.invariant.most, l.requires.few)
@@ -46,13 +46,13 @@ pub returns-then-rows-row : goal.returns-then-rows-row
 returns-then-rows-row c =
     ap some c.refusal.ensures
     ∙ ap (λ n. some (reply 36 c.loop-k.k n 0)) c.piece_row-row.ensures
-    ∙ sym (c.loop-k.invariant.same ∙ tiles_unknown (functions_offer (functions-of (goal.at.returns-then-rows-row c).At-loop-k)) (pieces-of (goal.at.returns-then-rows-row c).At-loop-k) (end_of_lem (goal.at.returns-then-rows-row c).At-loop-k) c.loop-k.k c.loop-k.at
+    ∙ sym (c.loop-k.invariant.same ∙ tiles_unknown (functions_offer (functions_of (goal.at.returns-then-rows-row c).At-loop-k)) (pieces_of (goal.at.returns-then-rows-row c).At-loop-k) (end_of_lem (goal.at.returns-then-rows-row c).At-loop-k) c.loop-k.k c.loop-k.at
     c.loop-k-test.true (omega (arith, c.if-rows-row.true, c.piece_row-row.ensures)))
 
 pub returns-then-start-at : goal.returns-then-start-at
 returns-then-start-at c =
     ap some c.refusal-then-start-at.ensures
-    ∙ sym (c.loop-k.invariant.same ∙ tiles_elsewhere (functions_offer (functions-of (goal.at.returns-then-start-at c).At-loop-k)) (pieces-of (goal.at.returns-then-start-at c).At-loop-k) (end_of_lem (goal.at.returns-then-start-at c).At-loop-k) c.loop-k.k c.loop-k.at
+    ∙ sym (c.loop-k.invariant.same ∙ tiles_elsewhere (functions_offer (functions_of (goal.at.returns-then-start-at c).At-loop-k)) (pieces_of (goal.at.returns-then-start-at c).At-loop-k) (end_of_lem (goal.at.returns-then-start-at c).At-loop-k) c.loop-k.k c.loop-k.at
     c.loop-k-test.true (omega (arith, c.if-rows-row.false, c.piece_row-row.ensures))
     (λ e. c.if-start-at.true (c.piece_start-start.ensures ∙ e)))
 
@@ -66,16 +66,16 @@ loop-k-preserved c =
       most = omega (arith, c.loop-k-test.true);
       low = omega (arith, few_slots c, c.loop-k.invariant.low);
       same = c.loop-k.invariant.same
-          ∙ tiles_on (functions_offer (functions-of (goal.at.loop-k-preserved c).At-loop-k)) (pieces-of (goal.at.loop-k-preserved c).At-loop-k) (end_of_lem (goal.at.loop-k-preserved c).At-loop-k) c.loop-k.k c.loop-k.at c.loop-k-test.true (row-known (goal.at.loop-k-preserved c).Else-start-at)
+          ∙ tiles_on (functions_offer (functions_of (goal.at.loop-k-preserved c).At-loop-k)) (pieces_of (goal.at.loop-k-preserved c).At-loop-k) (end_of_lem (goal.at.loop-k-preserved c).At-loop-k) c.loop-k.k c.loop-k.at c.loop-k-test.true (row_known (goal.at.loop-k-preserved c).Else-start-at)
           (sym c.piece_start-start.ensures ∙ c.if-start-at.false)
-          ∙ ap (λ n. Left (functions_offer (functions-of (goal.at.loop-k-preserved c).At-loop-k)) (pieces-of (goal.at.loop-k-preserved c).At-loop-k) (end_of_lem (goal.at.loop-k-preserved c).At-loop-k) (c.loop-k.k + 1) (c.loop-k.at + n)) (sym (row_slots c));
+          ∙ ap (λ n. Left (functions_offer (functions_of (goal.at.loop-k-preserved c).At-loop-k)) (pieces_of (goal.at.loop-k-preserved c).At-loop-k) (end_of_lem (goal.at.loop-k-preserved c).At-loop-k) (c.loop-k.k + 1) (c.loop-k.at + n)) (sym (row_slots c));
     }
 
 pub returns-then-at-end : goal.returns-then-at-end
 returns-then-at-end c =
-    sym (c.loop-k.invariant.same ∙ tiles_end (functions_offer (functions-of (goal.at.returns-then-at-end c).At-loop-k)) (pieces-of (goal.at.returns-then-at-end c).At-loop-k) (end_of_lem (goal.at.returns-then-at-end c).At-loop-k) c.loop-k.k c.loop-k.at (omega (arith, c.loop-k-test.false)) (omega (arith, c.if-at-end.true)))
+    sym (c.loop-k.invariant.same ∙ tiles_end (functions_offer (functions_of (goal.at.returns-then-at-end c).At-loop-k)) (pieces_of (goal.at.returns-then-at-end c).At-loop-k) (end_of_lem (goal.at.returns-then-at-end c).At-loop-k) c.loop-k.k c.loop-k.at (omega (arith, c.loop-k-test.false)) (omega (arith, c.if-at-end.true)))
 
 pub returns : goal.returns
 returns c =
     ap some c.refusal-2.ensures
-    ∙ sym (c.loop-k.invariant.same ∙ tiles_short (functions_offer (functions-of (goal.at.returns c).At-loop-k)) (pieces-of (goal.at.returns c).At-loop-k) (end_of_lem (goal.at.returns c).At-loop-k) c.loop-k.k c.loop-k.at (omega (arith, c.loop-k-test.false)) c.if-at-end.false)
+    ∙ sym (c.loop-k.invariant.same ∙ tiles_short (functions_offer (functions_of (goal.at.returns c).At-loop-k)) (pieces_of (goal.at.returns c).At-loop-k) (end_of_lem (goal.at.returns c).At-loop-k) c.loop-k.k c.loop-k.at (omega (arith, c.loop-k-test.false)) c.if-at-end.false)

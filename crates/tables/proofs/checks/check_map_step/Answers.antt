@@ -13,8 +13,8 @@ offered c =
     let a = c.args in
     map_step_offer a.code.now a.symbols.now a.functions.now a.relocations.now a.maps.now a.instructions.now
 
-first-refusal : (c : After-or_too_many-few-6) → ManyIs (offered c) map_step_tables (refusal_in c.or_too_many-few-6.result)
-first-refusal c =
+first_refusal : (c : After-or_too_many-few-6) → ManyIs (offered c) map_step_tables (refusal_in c.or_too_many-few-6.result)
+first_refusal c =
     many_next Code c.or_too_many-few-6.ensures
     (many_next Symbols c.or_too_many-few-5.ensures
     (many_next Functions c.or_too_many-few-4.ensures
@@ -24,13 +24,13 @@ first-refusal c =
     (many_end (offered c)))))))
 
 few : (c : In-Passes) → AllFew (offered (goal.at.In-Passes c).After-or_too_many-few-6) map_step_tables
-few c = few_passed (first-refusal (goal.at.In-Passes c).After-or_too_many-few-6) (ap refusal_in c.in-Passes.is)
+few c = few_passed (first_refusal (goal.at.In-Passes c).After-or_too_many-few-6) (ap refusal_in c.in-Passes.is)
 
 pub returns-in_default : goal.returns-in_default
 unfolding map_step_refusal
 returns-in_default c =
     let later = broken (offered (goal.at.returns-in_default c).After-or_too_many-few-6) map_step_tables in
-    many_refused (first-refusal (goal.at.returns-in_default c).After-or_too_many-few-6) later (stands c.or_too_many-few-6.result c.in_default.in_default-own.keys2 later)
+    many_refused (first_refusal (goal.at.returns-in_default c).After-or_too_many-few-6) later (stands c.or_too_many-few-6.result c.in_default.in_default-own.keys2 later)
 
 pub returns : goal.returns
 unfolding map_step_refusal broken_in

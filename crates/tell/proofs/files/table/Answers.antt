@@ -20,10 +20,10 @@ there file i s n e f h =
     (le-leb (start_of file i + held_in file i) (length file) (omega (arith, e, f))))
 
 -- the first table begins after the lengths
-past-lengths : (file : List ℕ) (i : ℕ) → 32 ≤ start_of file i
+past_lengths : (file : List ℕ) (i : ℕ) → 32 ≤ start_of file i
 unfolding start_of
-past-lengths file zero = omega arith
-past-lengths file (suc i) = omega (arith, past-lengths file i)
+past_lengths file zero = omega arith
+past_lengths file (suc i) = omega (arith, past_lengths file i)
 
 not_there : (file : List ℕ) (i s n : ℕ) → s ≡ start_of file i → n ≡ held_in file i → length file < s + n → [] ≡ table_in file i
 unfolding table_in
@@ -32,7 +32,7 @@ not_there file i s n e f h =
     (lt-leb (start_of file i + held_in file i) (length file) (omega (arith, e, f))))
 
 pub returns-then-file-lt-TABLE_LENGTHS : goal.returns-then-file-lt-TABLE_LENGTHS
-returns-then-file-lt-TABLE_LENGTHS c = not_there c.args.file.now c.args.i _ _ refl refl (omega (arith, past-lengths c.args.file.now c.args.i, c.if-file-lt-TABLE_LENGTHS.true))
+returns-then-file-lt-TABLE_LENGTHS c = not_there c.args.file.now c.args.i _ _ refl refl (omega (arith, past_lengths c.args.file.now c.args.i, c.if-file-lt-TABLE_LENGTHS.true))
 
 pub returns-then-end-file : goal.returns-then-end-file
 returns-then-end-file c = there _ _ _ _ c.start_of-start.ensures.0 c.held.ensures c.if-end-file.true

@@ -13,13 +13,13 @@ use Rattle.tell.proofs.lines.put_number.Goals as goal
 tenth : (m : ℕ) → 10 ^ suc m / 10 ≡ 10 ^ m
 tenth m = ap (λ (x : ℕ). x / 10) (pow-succ' 10 m) ∙ mul-div_cancel_left (10 ^ m) (omega arith)
 
-power-is : (k power : ℕ) → 0 < k → power ≡ 10 ^ k / 10 → power ≡ 10 ^ (k - 1)
-power-is k power h e =
+power_is : (k power : ℕ) → 0 < k → power ≡ 10 ^ k / 10 → power ≡ 10 ^ (k - 1)
+power_is k power h e =
     let s : k ≡ suc (k - 1) = omega arith in
     e ∙ ap (λ (x : ℕ). 10 ^ x / 10) s ∙ tenth (k - 1)
 
 power_pos : (k power : ℕ) → 0 < k → power ≡ 10 ^ k / 10 → 0 < power
-power_pos k power h e = omega (arith, power-is k power h e, one-le-pow (k - 1) 10 (omega arith))
+power_pos k power h e = omega (arith, power_is k power h e, one-le-pow (k - 1) 10 (omega arith))
 
 digits_from : (m power n width : ℕ) (begun : Bool) → power ≡ 10 ^ m
     → place_of (shows begun (suc m) (n / power % 10)) (leb (suc m) width) (n / power % 10) ++ numeral m (shows begun (suc m) (n / power % 10)) width n
@@ -52,7 +52,7 @@ loop-k-preserved c =
     let s = c.args in
     let p = c.put_place-line in
     let t = c.loop-k-test.true in
-    let e = power-is l.k l.power t l.invariant.1.0 in (
+    let e = power_is l.k l.power t l.invariant.1.0 in (
       omega arith,
       (
         ap (λ (x : ℕ). x / 10) e,
