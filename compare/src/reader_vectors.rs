@@ -97,7 +97,7 @@ fn vector(i: &Input, order: Endianness) -> (String, String) {
         Some((records, encoded, num)) => {
             let name = if i.line { "line" } else { "func" };
             let record = |r: &Vec<u32>| format!("{name} {}", r.iter().map(u32::to_string).collect::<Vec<_>>().join(" "));
-            format!("{name}-info {num} {} {}", list(records.iter().map(record)), bytes(&encoded))
+            format!("{name}_info {num} {} {}", list(records.iter().map(record)), bytes(&encoded))
         }
         None => "panicked".to_string(),
     };
