@@ -12,7 +12,7 @@
 # make fuzz     the fuzz harness under libFuzzer, for FUZZ_TIME seconds; needs clang
 .PHONY: test demo bench edits edits-apply mutants
 .DEFAULT_GOAL := test
-# rt has one target/ and keeps one log for a crate.
+# One rt works in a crate at a time.
 .NOTPARALLEL:
 
 include mk/c.mk
