@@ -110,7 +110,7 @@ pub const NO_NUMBER: usize = 83;
 pub const BLANK: usize = 84;
 
 // Lines 1 to 27 say why a step refused or what an examiner found: numbers 1 to 14, then 32 to 44.
-pub const TEXT: [u8; 2956] = *b": done (0): relocations applied: #^
+pub const TEXT: &str = ": done (0): relocations applied: #^
 : refused (1): a table has more rows than its limit
 : refused (2): a row breaks its table's rule, or tables 6 to 8 are not as long as table 3 says
 : refused (3): a relocation's symbol is not in table 2
