@@ -1,5 +1,5 @@
 // The pieces of a link in order of placing, which is the order of their starts: written from the starts alone.
-ghost use Rattle.std.specs.Prelude.{◌≡◌, ◌+◌, ◌*◌, ◌≤◌, ◌<◌, length};
+ghost use Rattle.std.specs.Prelude.{position, eqb, take, ◌≡◌, ◌+◌, ◌*◌, ◌≤◌, ◌<◌, length};
 ghost use Rattle.rules.specs.declared.Table.TheVariants.{Functions};
 ghost use Rattle.rules.specs.Bytes.{splice};
 ghost use Rattle.rules.specs.Lookups.{found_of};
@@ -8,7 +8,6 @@ ghost use Rattle.rules.specs.Rows.{most_rows};
 ghost use Rattle.pieces.specs.InOrder.{piece_bytes, row_at, Lists, Puts};
 
 use rows::fields::function_slots;
-use rules::Found;
 use rules::limits::{FUNCTION_SIZE, MOST_FUNCTIONS, PIECE_SIZE};
 use wire::put_u32;
 
@@ -22,18 +21,11 @@ fn put_piece(out: &mut [u8], k: usize, row: u32, start: u32)
 }
 
 // The first of n functions that starts there.
-fn find_start(starts: &[u16; MOST_FUNCTIONS], n: usize, at: u16) -> Found
+fn find_start(starts: &[u16; MOST_FUNCTIONS], n: usize, at: u16) -> Option<usize>
     requires { n ≤ most_rows Functions }
-    ensures { result ≡ found_of (row_at starts.now n at) }
+    ensures { result ≡ position (λ s. eqb s at) (take n starts.now) }
 {
-    let mut k = 0;
-    while k < n {
-        if starts[k] == at {
-            return Found::At(k);
-        }
-        k += 1;
-    }
-    Found::Nothing
+    starts[..n].iter().position(|start| *start == at)
 }
 
 // The root at 0, then each function that starts where the piece before it ends, up to the image's end; gives how many. At most as many follow
@@ -50,22 +42,16 @@ pub fn put_list(
 {
     put_piece(out, 0, root, 0);
     let n = functions.len() / FUNCTION_SIZE;
-    let first = function_slots(functions, root as usize);
-    let mut at = first.0;
-    let mut count = 1;
-    while count <= n {
+    let mut at = function_slots(functions, root as usize).0;
+    for count in 1..n + 1 {
         if at >= end {
             return count;
         }
-        let found = find_start(starts, n, at as u16);
-        let Found::At(row) = found else {
+        let Some(row) = find_start(starts, n, at as u16) else {
             return count;
         };
         put_piece(out, count, row as u32, at);
-        let own = function_slots(functions, row);
-        let slots = own.0;
-        at += slots;
-        count += 1;
+        at += function_slots(functions, row).0;
     }
-    count
+    n + 1
 }
