@@ -1,11 +1,8 @@
 // The pieces of a link in order of placing, which is the order of their starts: written from the starts alone.
-ghost use Rattle.std.specs.Prelude.{position, eqb, take, ◌≡◌, ◌+◌, ◌*◌, ◌≤◌, ◌<◌, length};
-ghost use Rattle.rules.specs.declared.Table.TheVariants.{Functions};
+ghost use Rattle.std.specs.Prelude.{◌≡◌, ◌+◌, ◌*◌, ◌≤◌, eqb, length, position};
 ghost use Rattle.rules.specs.Bytes.{splice};
-ghost use Rattle.rules.specs.Lookups.{found_of};
 ghost use Rattle.rules.specs.Pieces.{piece_size};
-ghost use Rattle.rules.specs.Rows.{most_rows};
-ghost use Rattle.pieces.specs.InOrder.{piece_bytes, row_at, Lists, Puts};
+ghost use Rattle.pieces.specs.InOrder.{piece_bytes, Lists, Puts};
 
 use rows::fields::function_slots;
 use rules::limits::{FUNCTION_SIZE, MOST_FUNCTIONS, PIECE_SIZE};
@@ -20,12 +17,11 @@ fn put_piece(out: &mut [u8], k: usize, row: u32, start: u32)
     put_u32(out, at + 4, start);
 }
 
-// The first of n functions that starts there.
-fn find_start(starts: &[u16; MOST_FUNCTIONS], n: usize, at: u16) -> Option<usize>
-    requires { n ≤ most_rows Functions }
-    ensures { result ≡ position (λ s. eqb s at) (take n starts.now) }
+// The first function that starts there.
+fn find_start(starts: &[u16], at: u16) -> Option<usize>
+    ensures { result ≡ position (λ start. eqb start at) starts.now }
 {
-    starts[..n].iter().position(|start| *start == at)
+    starts.iter().position(|start| *start == at)
 }
 
 // The root at 0, then each function that starts where the piece before it ends, up to the image's end; gives how many. At most as many follow
@@ -47,7 +43,7 @@ pub fn put_list(
         if at >= end {
             return count;
         }
-        let Some(row) = find_start(starts, n, at as u16) else {
+        let Some(row) = find_start(&starts[..n], at as u16) else {
             return count;
         };
         put_piece(out, count, row as u32, at);

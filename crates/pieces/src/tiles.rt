@@ -15,7 +15,7 @@ fn is_piece(t: &[u8], k: usize, row: u32, place: u64) -> bool
     requires { piece_size * k + piece_size ≤ length t.now }
     ensures { result ≡ (eqb (piece_row t.now k) row && eqb (piece_start t.now k) place) }
 {
-    piece_row(t, k) == row && piece_start(t, k).0 as u64 == place
+    piece_row(t, k) == row && u64::from(piece_start(t, k).0) == place
 }
 
 // A list of less than a row has no first piece.
@@ -61,7 +61,7 @@ fn starts_before(pieces: &[u8], place: u64) -> usize
     rows.partition_point(
         |row: &[u8; PIECE_SIZE]| -> bool
             ensures { result ≡ start_is_before row.now place 0 }
-        { (piece_start(row, 0).0 as u64) < place },
+        { u64::from(piece_start(row, 0).0) < place },
     )
 }
 
