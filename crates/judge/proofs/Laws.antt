@@ -2,21 +2,18 @@
 -- Assumes nothing.
 use mathlib.Core.Path.{◌≡◌, refl, sym, ap, ◌∙◌}
 use mathlib.Core.Logic.{◌⊎◌, inl, inr, ⊎_elim}
-use mathlib.Core.Bool.{Bool, true, false, cond, ◌&&◌, ◌||◌}
+use mathlib.Core.Bool.{Bool, true, false, cond, ◌||◌}
 use mathlib.Core.Option.{Option, none, some}
 use mathlib.Core.List.{List}
-use Prim.Native.Nat.{ℕ, suc, ◌<◌}
-use native.Mathlib.Omega.{arith}
-use borrow.Author.Tests.{eq-eqb, ne_eqb, lt-ltb, le-ltb, leb-true, leb-false, ltb-true}
-use lib.Dec.{eqb, ltb, leb}
+use Prim.Native.Nat.{ℕ, ◌<◌}
+use borrow.Author.Tests.{eq-eqb, ne_eqb, ltb-true}
+use lib.Dec.{eqb}
 use lib.IntN.{ℤ, pos, negsuc, ◌+ℤ◌}
-use lib.Signed.{le_z}
 use mir.Syntax.{w32}
 use mir.Val.{SFits}
 use Rattle.rules.specs.declared.Cause.{Cause}
 use Rattle.rules.specs.declared.Cause.TheVariants.{UnknownSymbol, SectionNotFound, NotWideLoad, ValueOutside}
 use Rattle.rules.specs.declared.Refusal.{Refusal}
-use Rattle.std.specs.Prelude as prelude
 use Rattle.std.specs.Prelude.{Ok, Err, Some, None}
 use Rattle.rules.specs.declared.Table.TheVariants.{Maps}
 use Rattle.rules.specs.Bytes.{half32}

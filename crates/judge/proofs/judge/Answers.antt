@@ -2,7 +2,7 @@
 use mathlib.Core.Path.{◌≡◌, sym, ap, ◌∙◌}
 use Prim.Native.Nat.{ℕ, ◌+◌, ◌-◌, ◌*◌, ◌%◌, ◌≤◌, ◌<◌}
 use native.Mathlib.Omega.{arith}
-use borrow.Author.Tests.{eqb-true, eqb-false, not-true, not-false}
+use borrow.Author.Tests.{eqb-true, eqb-false}
 use Rattle.rules.specs.declared.Cause.TheVariants.{InvalidRelocationOffset}
 use Rattle.rules.specs.Answers.{reply, number_of}
 use Rattle.rules.specs.Rows.{Offered, function_slots, function_offset, relocation_symbol, relocation_offset}
