@@ -1,8 +1,7 @@
--- Two bytes below 256 each, by their weights.
-use borrow.Author.Rules.{rules}
-use Rattle.rules.specs.Bytes.{u16_at}
+-- The number of the two bytes is the one that stands there.
+use native.Mathlib.Omega.{arith}
+use Rattle.wire.proofs.Bits.{read16}
 use Rattle.wire.proofs.u16_at.Goals as goal
 
 pub returns : goal.returns
-unfolding u16_at
-returns c = search rules
+returns c = (cc (read16 c.args.s.now c.args.at), omega arith)
