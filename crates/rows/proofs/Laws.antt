@@ -10,7 +10,7 @@ use borrow.Author.Tests.{eqb-true, eqb-false, eq-eqb, ne_eqb}
 use lib.IntN.{ℤ, pos, negsuc}
 use lib.Dec.{eqb}
 use Rattle.rules.specs.declared.Table.TheVariants.{Code, Symbols, Functions, Relocations, Maps}
-use Rattle.rules.specs.declared.Found.TheVariants.{At, Nothing}
+use Rattle.std.specs.Prelude.{Some, None}
 use Rattle.rules.specs.Tables.{is_at, is_some}
 use Rattle.rules.specs.Maps.{is_symbol, has_none}
 use Rattle.rules.specs.Rows.{none_number, or_none, whole_rows, first_from, code_section, symbol_index, function_section, function_address, relocation_section, relocation_offset, map_section, map_symbol}
@@ -20,11 +20,11 @@ use Rattle.rules.proofs.Passed.{and_left, and_right}
 use Rattle.rows.specs.Matches.{code_matches, symbol_matches, function_matches, relocation_matches, map_symbol_matches, map_section_matches}
 
 -- ---- answers as options
-pub found_some : (o : Option ℕ) (k : ℕ) → found_of o ≡ At k → o ≡ some k
+pub found_some : (o : Option ℕ) (k : ℕ) → found_of o ≡ Some k → o ≡ some k
 found_some none k e = let z : ◌≡◌ {A = ℕ} 0 1 = cc in absurd (omega arith)
 found_some (some j) k e = let same : j ≡ k = cc in ap some same
 
-pub found_none : (o : Option ℕ) → found_of o ≡ Nothing → o ≡ none
+pub found_none : (o : Option ℕ) → found_of o ≡ None → o ≡ none
 found_none none e = refl
 found_none (some j) e = let z : ◌≡◌ {A = ℕ} 0 1 = cc in absurd (omega arith)
 
@@ -39,7 +39,7 @@ module _ (test : ℕ → Bool) (n : ℕ) where
       let h = found_passes test 0 n k e in
       record { inside = omega (arith, h.high); passes = h.passes }
 
-  pub row_found : (k : ℕ) → found_of (first_from test 0 n) ≡ At k → Row k
+  pub row_found : (k : ℕ) → found_of (first_from test 0 n) ≡ Some k → Row k
   row_found k e = row_of_lem k (found_some (first_from test 0 n) k e)
 
   none_passes : first_from test 0 n ≡ none → (k : ℕ) → k < n → test k ≡ true → ⊥
@@ -48,7 +48,7 @@ module _ (test : ℕ → Bool) (n : ℕ) where
       let z : ◌≡◌ {A = ℕ} 0 1 = cc in
       omega arith
 
-  pub row_missing_lem : found_of (first_from test 0 n) ≡ Nothing → (k : ℕ) → k < n → test k ≡ true → ⊥
+  pub row_missing_lem : found_of (first_from test 0 n) ≡ None → (k : ℕ) → k < n → test k ≡ true → ⊥
   row_missing_lem e = none_passes (found_none (first_from test 0 n) e)
 
 -- ---- tests on fields
@@ -107,13 +107,13 @@ module _ (t : List ℕ) where
     pub inside : k < whole_rows Symbols t
     pub index_is : symbol_index t k ≡ index
 
-  pub symbol_found : (index k : ℕ) → found_of (symbol_with t index) ≡ At k → SymbolFound index k
+  pub symbol_found : (index k : ℕ) → found_of (symbol_with t index) ≡ Some k → SymbolFound index k
   unfolding symbol_with
   symbol_found index k e =
       let h = row_found (symbol_matches t index) (whole_rows Symbols t) k e in
       record { inside = h.inside; index_is = eqb-true (symbol_index t k) index h.passes }
 
-  pub symbol_missing : (index : ℕ) → found_of (symbol_with t index) ≡ Nothing → (k : ℕ) → k < whole_rows Symbols t → symbol_index t k ≡ index → ⊥
+  pub symbol_missing : (index : ℕ) → found_of (symbol_with t index) ≡ None → (k : ℕ) → k < whole_rows Symbols t → symbol_index t k ≡ index → ⊥
   unfolding symbol_with
   symbol_missing index e k l s = row_missing_lem (symbol_matches t index) (whole_rows Symbols t) e k l (eq-eqb (symbol_index t k) index s)
 
@@ -123,7 +123,7 @@ module _ (t : List ℕ) where
     pub section : function_section t k ≡ home
     pub address_is : address ≡ pos (function_address t k)
 
-  pub function_found : (home : ℕ) (address : ℤ) (k : ℕ) → found_of (function_with t home address) ≡ At k → FunctionFound home address k
+  pub function_found : (home : ℕ) (address : ℤ) (k : ℕ) → found_of (function_with t home address) ≡ Some k → FunctionFound home address k
   unfolding function_with
   function_found home address k e =
       let h = row_found (function_matches t home address) (whole_rows Functions t) k e in
@@ -133,7 +133,7 @@ module _ (t : List ℕ) where
         address_is = is_at_lem (function_address t k) address (and_right (eqb (function_section t k) home) _ h.passes);
       }
 
-  pub function_missing : (home : ℕ) (address : ℤ) → found_of (function_with t home address) ≡ Nothing
+  pub function_missing : (home : ℕ) (address : ℤ) → found_of (function_with t home address) ≡ None
       → (k : ℕ) → k < whole_rows Functions t → function_section t k ≡ home → address ≡ pos (function_address t k) → ⊥
   unfolding function_with
   function_missing home address e k l s a =
@@ -146,7 +146,7 @@ module _ (t : List ℕ) where
     pub section : relocation_section t k ≡ home
     pub offset_is : relocation_offset t k ≡ offset
 
-  pub relocation_found : (home offset k : ℕ) → found_of (relocation_with t home offset) ≡ At k → RelocationFound home offset k
+  pub relocation_found : (home offset k : ℕ) → found_of (relocation_with t home offset) ≡ Some k → RelocationFound home offset k
   unfolding relocation_with
   relocation_found home offset k e =
       let h = row_found (relocation_matches t home offset) (whole_rows Relocations t) k e in
@@ -156,7 +156,7 @@ module _ (t : List ℕ) where
         offset_is = eqb-true (relocation_offset t k) offset (and_right (eqb (relocation_section t k) home) _ h.passes);
       }
 
-  pub relocation_missing : (home offset : ℕ) → found_of (relocation_with t home offset) ≡ Nothing
+  pub relocation_missing : (home offset : ℕ) → found_of (relocation_with t home offset) ≡ None
       → (k : ℕ) → k < whole_rows Relocations t → relocation_section t k ≡ home → relocation_offset t k ≡ offset → ⊥
   unfolding relocation_with
   relocation_missing home offset e k l s a =
@@ -169,14 +169,14 @@ module _ (t : List ℕ) where
     pub symbol_is : map_symbol t k ≡ symbol
     pub named : map_symbol t k ≡ none_number → ⊥
 
-  pub map_symbol_found : (symbol k : ℕ) → found_of (map_with_symbol t symbol) ≡ At k → MapSymbolFound symbol k
+  pub map_symbol_found : (symbol k : ℕ) → found_of (map_with_symbol t symbol) ≡ Some k → MapSymbolFound symbol k
   unfolding map_with_symbol
   map_symbol_found symbol k e =
       let h = row_found (map_symbol_matches t symbol) (whole_rows Maps t) k e in
       let o = named symbol (map_symbol t k) h.passes in
       record { inside = h.inside; symbol_is = o.same; named = o.named }
 
-  pub map_symbol_missing : (symbol : ℕ) → found_of (map_with_symbol t symbol) ≡ Nothing
+  pub map_symbol_missing : (symbol : ℕ) → found_of (map_with_symbol t symbol) ≡ None
       → (k : ℕ) → k < whole_rows Maps t → map_symbol t k ≡ symbol → (map_symbol t k ≡ none_number → ⊥) → ⊥
   unfolding map_with_symbol
   map_symbol_missing symbol e k l s o =
@@ -188,7 +188,7 @@ module _ (t : List ℕ) where
     pub section : map_section t k ≡ home
     pub unnamed : map_symbol t k ≡ none_number
 
-  pub map_section_found : (home k : ℕ) → found_of (map_of_section t home) ≡ At k → MapSectionFound home k
+  pub map_section_found : (home k : ℕ) → found_of (map_of_section t home) ≡ Some k → MapSectionFound home k
   unfolding map_of_section
   map_section_found home k e =
       let h = row_found (map_section_matches t home) (whole_rows Maps t) k e in
@@ -198,7 +198,7 @@ module _ (t : List ℕ) where
         unnamed = unnamed (map_symbol t k) (and_right (eqb (map_section t k) home) _ h.passes);
       }
 
-  pub map_section_missing : (home : ℕ) → found_of (map_of_section t home) ≡ Nothing
+  pub map_section_missing : (home : ℕ) → found_of (map_of_section t home) ≡ None
       → (k : ℕ) → k < whole_rows Maps t → map_section t k ≡ home → map_symbol t k ≡ none_number → ⊥
   unfolding map_of_section
   map_section_missing home e k l s o =

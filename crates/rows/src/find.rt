@@ -13,7 +13,7 @@ use crate::fields::{
 };
 use crate::order::{is_before, same_place};
 use rules::limits::{CODE_SIZE, FUNCTION_SIZE, MAP_SIZE, NONE, RELOCATION_SIZE, SYMBOL_SIZE};
-use rules::{ByteOffset, Found};
+use rules::ByteOffset;
 
 fn is_function(t: &[u8], k: usize, home: u32, address: i64) -> bool
     requires { row_size Functions * k + row_size Functions ≤ length t.now }
@@ -88,7 +88,7 @@ pub fn is_code(t: &[u8], home: u32) -> bool
     false
 }
 
-pub fn find_symbol(t: &[u8], index: u32) -> Found
+pub fn find_symbol(t: &[u8], index: u32) -> Option<usize>
     requires { Sound Symbols t.now }
     ensures { result ≡ found_of (symbol_with t.now index) }
 {
@@ -96,14 +96,14 @@ pub fn find_symbol(t: &[u8], index: u32) -> Found
     let mut k = 0;
     while k < n {
         if symbol_index(t, k) == index {
-            return Found::At(k);
+            return Some(k);
         }
         k += 1;
     }
-    Found::Nothing
+    None
 }
 
-pub fn find_function(t: &[u8], home: u32, address: i64) -> Found
+pub fn find_function(t: &[u8], home: u32, address: i64) -> Option<usize>
     requires { Sound Functions t.now }
     ensures { result ≡ found_of (function_with t.now home address) }
 {
@@ -111,14 +111,14 @@ pub fn find_function(t: &[u8], home: u32, address: i64) -> Found
     let mut k = 0;
     while k < n {
         if is_function(t, k, home, address) {
-            return Found::At(k);
+            return Some(k);
         }
         k += 1;
     }
-    Found::Nothing
+    None
 }
 
-pub fn find_relocation(t: &[u8], home: u32, offset: ByteOffset) -> Found
+pub fn find_relocation(t: &[u8], home: u32, offset: ByteOffset) -> Option<usize>
     requires { Sound Relocations t.now }
     ensures { result ≡ found_of (relocation_with t.now home offset.0) }
 {
@@ -126,11 +126,11 @@ pub fn find_relocation(t: &[u8], home: u32, offset: ByteOffset) -> Found
     let mut k = 0;
     while k < n {
         if is_relocation(t, k, home, offset) {
-            return Found::At(k);
+            return Some(k);
         }
         k += 1;
     }
-    Found::Nothing
+    None
 }
 
 // How many relocations stand before (home, offset), by halving.
@@ -151,7 +151,7 @@ pub fn relocations_before(t: &[u8], home: u32, offset: ByteOffset) -> usize
     low
 }
 
-pub fn find_map_symbol(t: &[u8], symbol: u32) -> Found
+pub fn find_map_symbol(t: &[u8], symbol: u32) -> Option<usize>
     requires { Sound Maps t.now }
     ensures { result ≡ found_of (map_with_symbol t.now symbol) }
 {
@@ -159,14 +159,14 @@ pub fn find_map_symbol(t: &[u8], symbol: u32) -> Found
     let mut k = 0;
     while k < n {
         if is_map_with(t, k, symbol) {
-            return Found::At(k);
+            return Some(k);
         }
         k += 1;
     }
-    Found::Nothing
+    None
 }
 
-pub fn find_map_section(t: &[u8], home: u32) -> Found
+pub fn find_map_section(t: &[u8], home: u32) -> Option<usize>
     requires { Sound Maps t.now }
     ensures { result ≡ found_of (map_of_section t.now home) }
 {
@@ -174,9 +174,9 @@ pub fn find_map_section(t: &[u8], home: u32) -> Found
     let mut k = 0;
     while k < n {
         if is_map_of(t, k, home) {
-            return Found::At(k);
+            return Some(k);
         }
         k += 1;
     }
-    Found::Nothing
+    None
 }

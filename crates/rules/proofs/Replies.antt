@@ -11,8 +11,7 @@ use Rattle.rules.specs.declared.Places.{Places}
 use Rattle.rules.specs.declared.Cause.{Cause}
 use Rattle.rules.specs.declared.Cause.TheVariants.{TooManyRows, BrokenRow, UnknownSymbol, InvalidRelocationOffset, SectionNotFound, NotWideLoad, ValueOutside, UnknownForm, NoCode, UnknownFunction, NoRoom, LineOutside, NoRoot, BrokenInfo, NoListRoom, ShownTooLong, ShownPartial, RootNotFirst, NoSuchFunction, NotTiled, EndsElsewhere, SlotChanged, NotReference, WrongTarget, FuncInfoDiffers, LineInfoDiffers, RecordsOver}
 use Rattle.rules.specs.declared.Refusal.{Refusal}
-use Rattle.rules.specs.declared.Answer.{Answer}
-use Rattle.rules.specs.declared.Answer.TheVariants.{Done, Refused}
+use Rattle.std.specs.Prelude.{Result, Ok, Err}
 use Rattle.rules.specs.Answers.{Reply, number_of, refused_reply, reply_of}
 
 -- the cause of a number
@@ -122,14 +121,14 @@ not_zero RecordsOver = refl
 pub refuses : (r : Refusal) → (refused_reply r).number ≢ 0
 refuses r = eqb-false (number_of r.cause) 0 (not_zero r.cause)
 
-answer_of : Reply → Answer
-answer_of r = cond (eqb r.number 0) (Done (places_in r)) (Refused (refusal_of r))
+answer_of : Reply → Result Places Refusal
+answer_of r = cond (eqb r.number 0) (Ok (places_in r)) (Err (refusal_of r))
 
-answer_back : (a : Answer) → answer_of (reply_of a) ≡ a
+answer_back : (a : Result Places Refusal) → answer_of (reply_of a) ≡ a
 unfolding answer_of places_in
-answer_back (Done p) = refl
-answer_back (Refused r) =
-    ap (λ b. cond b (Done (places_in (refused_reply r))) (Refused (refusal_of (refused_reply r)))) (not_zero r.cause) ∙ ap Refused (back r)
+answer_back (Ok p) = refl
+answer_back (Err r) =
+    ap (λ b. cond b (Ok (places_in (refused_reply r))) (Err (refusal_of (refused_reply r)))) (not_zero r.cause) ∙ ap Err (back r)
 
-pub one_answer : (a b : Answer) → reply_of a ≡ reply_of b → a ≡ b
+pub one_answer : (a b : Result Places Refusal) → reply_of a ≡ reply_of b → a ≡ b
 one_answer a b e = sym (answer_back a) ∙ ap answer_of e ∙ answer_back b

@@ -1,16 +1,12 @@
 -- "Numbers returned": document 01's number and places of each answer, and how places are written to a lent buffer.
 -- Assumes nothing.
 use Rattle.std.proofs.Math.Option.{Option, none, some}
-use Rattle.std.specs.Prelude.{List, [], ◌∷◌, ◌++◌, ℕ, ◌/◌, take}
+use Rattle.std.specs.Prelude.{List, [], ◌∷◌, ◌++◌, ℕ, ◌/◌, take, Result, Ok, Err}
 use Rattle.rules.specs.Bytes.{little, bytes4, padded}
 use Rattle.rules.specs.declared.Places.{Places}
 use Rattle.rules.specs.declared.Cause.{Cause}
 use Rattle.rules.specs.declared.Cause.TheVariants.{TooManyRows, BrokenRow, UnknownSymbol, InvalidRelocationOffset, SectionNotFound, NotWideLoad, ValueOutside, UnknownForm, NoCode, UnknownFunction, NoRoom, LineOutside, NoRoot, BrokenInfo, NoListRoom, ShownTooLong, ShownPartial, RootNotFirst, NoSuchFunction, NotTiled, EndsElsewhere, SlotChanged, NotReference, WrongTarget, FuncInfoDiffers, LineInfoDiffers, RecordsOver}
 use Rattle.rules.specs.declared.Refusal.{Refusal}
-use Rattle.rules.specs.declared.Answer.{Answer}
-use Rattle.rules.specs.declared.Answer.TheVariants as answer
-use Rattle.rules.specs.declared.Judgement.{Judgement}
-use Rattle.rules.specs.declared.Judgement.TheVariants as judgement
 
 -- "They return the number and write the place numbers": three of them
 pub record Reply : Type 0 where
@@ -58,14 +54,15 @@ number_of RecordsOver = 44
 abbrev pub refused_reply : Refusal → Reply
 refused_reply r = record { number = number_of r.cause; places = places_of r.places }
 
-abbrev pub reply_of : Answer → Reply
-reply_of (answer.Done p) = record { number = 0; places = places_of p }
-reply_of (answer.Refused r) = refused_reply r
+-- of what an entry answers: link: slots, function records, line records; map step: relocations applied; readers: records
+abbrev pub reply_of : Result Places Refusal → Reply
+reply_of (Ok p) = record { number = 0; places = places_of p }
+reply_of (Err r) = refused_reply r
 
 -- the reply of what is refused, if anything is
-abbrev pub refusal_in : Judgement → Option Reply
-refusal_in judgement.Passes = none
-refusal_in (judgement.Refused r) = some (refused_reply r)
+abbrev pub refusal_in : Result (Unit {0}) Refusal → Option Reply
+refusal_in (Ok passed) = none
+refusal_in (Err r) = some (refused_reply r)
 
 -- numbers as u32 each
 abbrev pub numbers : List ℕ → List ℕ

@@ -1,6 +1,9 @@
--- What contracts say of lent bytes, in short: the bytes as they were lent, and as they are at the end.
+-- What contracts say of lent bytes, in short: the tables that a definition takes, from the structs that lend them.
 -- Assumes nothing.
 use Rattle.std.specs.Prelude.{List, [], ℕ, length}
+use Rattle.rules.specs.declared.Names.{Names}
+use Rattle.rules.specs.declared.Program.{Program}
+use Rattle.rules.specs.declared.Image.{Image}
 use Rattle.rules.specs.Rows.{Offered, map_step_offer, link_offer}
 use Rattle.rules.specs.Entries.{Outputs}
 use Rattle.rules.specs.Examine.{Shown, shown}
@@ -9,44 +12,31 @@ use Rattle.rules.specs.Examine.{Shown, shown}
 abbrev pub Bytes : Type 0
 Bytes = List ℕ
 
--- ---- the tables that the link takes: in a `requires`, and in an `ensures`
+-- ---- the tables that the link takes
 
-abbrev pub offered : Bytes → Bytes → Bytes → Bytes → Bytes → Bytes → Bytes → Offered
-offered code symbols functions relocations instructions func_info line_info =
-    link_offer code symbols functions relocations instructions func_info line_info
+abbrev pub lent : Names → Program → Offered
+lent names program =
+    link_offer names.code.now names.symbols.now names.functions.now names.relocations.now
+    program.instructions.now program.func_info.now program.line_info.now
 
-abbrev pub lent : Bytes → Bytes → Bytes → Bytes → Bytes → Bytes → Bytes → Offered
-lent code symbols functions relocations instructions func_info line_info =
-    link_offer code symbols functions relocations instructions func_info line_info
+-- ---- those of the map step
 
--- ---- and those of the map step
+abbrev pub lent_maps : Names → Bytes → Bytes → Offered
+lent_maps names maps instructions =
+    map_step_offer names.code.now names.symbols.now names.functions.now names.relocations.now maps instructions
 
-abbrev pub offered_maps : Bytes → Bytes → Bytes → Bytes → Bytes → Bytes → Offered
-offered_maps code symbols functions relocations maps instructions =
-    map_step_offer code symbols functions relocations maps instructions
+-- ---- those that say what a slot names
 
-abbrev pub lent_maps : Bytes → Bytes → Bytes → Bytes → Bytes → Bytes → Offered
-lent_maps code symbols functions relocations maps instructions =
-    map_step_offer code symbols functions relocations maps instructions
+abbrev pub lent_code : Names → Bytes → Offered
+lent_code names instructions = lent_maps names [] instructions
 
--- ---- the tables that say what a slot names
-
-abbrev pub offered_code : Bytes → Bytes → Bytes → Bytes → Bytes → Offered
-offered_code code symbols functions relocations instructions = map_step_offer code symbols functions relocations [] instructions
-
-abbrev pub lent_code : Bytes → Bytes → Bytes → Bytes → Bytes → Offered
-lent_code code symbols functions relocations instructions = map_step_offer code symbols functions relocations [] instructions
-
--- ---- the tables that hold a function's parts
+-- ---- those that hold a function's parts
 
 abbrev pub parts_offer : List ℕ → List ℕ → List ℕ → List ℕ → Offered
 parts_offer functions instructions func_info line_info = link_offer [] [] functions [] instructions func_info line_info
 
-abbrev pub offered_parts : Bytes → Bytes → Bytes → Bytes → Offered
-offered_parts functions instructions func_info line_info = parts_offer functions instructions func_info line_info
-
-abbrev pub lent_parts : Bytes → Bytes → Bytes → Bytes → Offered
-lent_parts functions instructions func_info line_info = parts_offer functions instructions func_info line_info
+abbrev pub lent_parts : Bytes → Program → Offered
+lent_parts functions program = parts_offer functions program.instructions.now program.func_info.now program.line_info.now
 
 -- ---- the three outputs of a link
 
@@ -58,13 +48,8 @@ pub record Buffers : Type 0 where
 abbrev pub buffers : List ℕ → List ℕ → List ℕ → Buffers
 buffers image funcs lines = record { image = image; funcs = funcs; lines = lines }
 
--- as a `requires` has them, and as they are at the end
-abbrev pub outputs : Bytes → Bytes → Bytes → Buffers
-outputs image funcs lines = buffers image funcs lines
-
--- as they were lent
-abbrev pub lent_outputs : Bytes → Bytes → Bytes → Buffers
-lent_outputs image funcs lines = buffers image funcs lines
+abbrev pub lent_image : Image → Buffers
+lent_image image = buffers image.slots.now image.func_info.now image.line_info.now
 
 -- their lengths
 abbrev pub lent_by : Buffers → Outputs
@@ -72,8 +57,5 @@ lent_by b = record { image = length b.image; func_info = length b.funcs; line_in
 
 -- ---- what is shown to the examiner
 
-abbrev pub offered_shown : Bytes → Bytes → Bytes → Bytes → Shown
-offered_shown image funcs lines pieces = shown image funcs lines pieces
-
-abbrev pub lent_shown : Bytes → Bytes → Bytes → Bytes → Shown
-lent_shown image funcs lines pieces = shown image funcs lines pieces
+abbrev pub lent_shown : Program → Bytes → Shown
+lent_shown image pieces = shown image.instructions.now image.func_info.now image.line_info.now pieces

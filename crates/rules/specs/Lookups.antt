@@ -4,15 +4,15 @@ use Rattle.std.specs.Prelude.{◌≡◌, Bool, false, not, ◌&&◌, List, ℕ, 
 use Rattle.std.proofs.Math.Option.{Option, none, some}
 use Rattle.rules.specs.declared.Table.{Table}
 use Rattle.rules.specs.declared.Table.TheVariants.{Code, Symbols, Functions, Relocations, Maps, Instructions, FuncInfo, LineInfo}
-use Rattle.rules.specs.declared.Found.{Found}
-use Rattle.rules.specs.declared.Found.TheVariants.{At, Nothing}
+use Rattle.std.specs.Prelude as prelude
 use Rattle.rules.specs.Tables.{is_at, is_some, Before}
 use Rattle.rules.specs.Maps.{is_symbol, has_none}
 use Rattle.rules.specs.Rows.{row_size, Offered, total, below, whole_rows, is_too_many, first_broken, first_from, code_section, symbol_index, function_section, function_address, relocation_section, relocation_offset, map_section, map_symbol, or_none}
 
-abbrev pub found_of : Option ℕ → Found
-found_of none = Nothing
-found_of (some k) = At k
+-- as code has it
+abbrev pub found_of : Option ℕ → prelude.Option ℕ
+found_of none = prelude.None
+found_of (some k) = prelude.Some k
 
 -- the row that a lookup found, read
 abbrev pub read_row {ℓ} : {A : Type ℓ} → (ℕ → A) → Option ℕ → Option A
