@@ -111,7 +111,8 @@ impl<'a> Records<'a> {
         if !self.is_whole() {
             return Err(refusal(Cause::BrokenInfo, 0, 0));
         }
-        if out.len() < self.count as usize * self.kind.row_size() {
+        let row = self.kind.row_size();
+        if out.len() < self.count as usize * row {
             return Err(refusal(Cause::NoRoom, 0, 0));
         }
         self.put_rows(out);
