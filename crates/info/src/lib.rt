@@ -9,7 +9,7 @@ ghost use Rattle.rules.specs.Readers.{is_whole, rows_of_records, has_record, rec
 ghost use Rattle.info.specs.Promises.{table_of, table_in, info_in, ReadAs, Ready, GivenBack};
 
 use answers::refusal;
-use insn::{is_on_grid, to_slot};
+use insn::{is_on_grid, offset_at, to_slot};
 use rules::{ByteOffset, Cause, Places, Refusal, Table};
 use wire::{copy, put_u32, u32_at, wipe};
 
@@ -45,7 +45,7 @@ fn offset_in(bytes: &[u8]) -> ByteOffset
     requires { 4 ≤ length bytes.now }
     ensures { (result.0 ≡ u32_at little bytes.now 0) × (result.0 < 2 ^ 32) }
 {
-    ByteOffset(u64::from(u32_at(bytes, 0)))
+    offset_at(u64::from(u32_at(bytes, 0)))
 }
 
 fn begins_on_slot(bytes: &[u8]) -> bool
