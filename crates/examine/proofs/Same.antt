@@ -13,10 +13,10 @@ use Rattle.rules.specs.declared.Table.TheVariants.{FuncInfo, LineInfo}
 use Rattle.rules.specs.Bytes.{little}
 use Rattle.rules.specs.Answers.{Reply, reply}
 use Rattle.rules.specs.Tables.{FunctionRecord, LineRecord, Tables}
-use Rattle.rules.specs.Rows.{whole_rows, table_number, record_slot, func_info_row, line_info_row}
+use Rattle.rules.specs.Rows.{whole_rows, table_number, or_else, record_slot, func_info_row, line_info_row}
 use Rattle.rules.specs.Examine.{Shown, claim_of, same_function_record, same_line_record, over_wrong}
 use Rattle.rules.proofs.Linking.{length_run}
-use Rattle.examine.specs.Recorded.{func_of, line_of, func_wrong, line_wrong, stray_reply, stray_of, Movable}
+use Rattle.examine.specs.Recorded.{func_of, line_of, func_wrong, line_wrong, stray_reply, stray_of, over, Movable}
 
 -- ---- function records
 module _ (a b : FunctionRecord) where
@@ -156,19 +156,11 @@ module _ (tables : Tables) (s : Shown) (f l : ℕ) where
       ap (λ n. decided (leb n f) (leb (length (claim_of little s).lines) l)) (length_run (func_info_row little s.func_info) 0 (whole_rows FuncInfo s.func_info))
       ∙ ap (λ n. decided (leb (whole_rows FuncInfo s.func_info) f) (leb n l)) (length_run (line_info_row little s.line_info) 0 (whole_rows LineInfo s.line_info))
 
-  pub funcs_over : f < whole_rows FuncInfo s.func_info → some (reply 44 (table_number FuncInfo) f 0) ≡ over_wrong tables (claim_of little s) f l
+  -- function records first, then line records
+  pub over_parts : over_wrong tables (claim_of little s) f l ≡ or_else (over FuncInfo s.func_info f) (over LineInfo s.line_info l)
   unfolding decided
-  funcs_over h = sym (over_is ∙ ap (λ b. decided b (leb (whole_rows LineInfo s.line_info) l)) (lt-leb (whole_rows FuncInfo s.func_info) f h))
-
-  pub lines_over : whole_rows FuncInfo s.func_info ≤ f → l < whole_rows LineInfo s.line_info
-      → some (reply 44 (table_number LineInfo) l 0) ≡ over_wrong tables (claim_of little s) f l
-  unfolding decided
-  lines_over g h =
-      sym (over_is ∙ ap (λ b. decided b (leb (whole_rows LineInfo s.line_info) l)) (le-leb (whole_rows FuncInfo s.func_info) f g)
-      ∙ ap (decided true) (lt-leb (whole_rows LineInfo s.line_info) l h))
-
-  pub none_over : whole_rows FuncInfo s.func_info ≤ f → whole_rows LineInfo s.line_info ≤ l → none ≡ over_wrong tables (claim_of little s) f l
-  unfolding decided
-  none_over g h =
-      sym (over_is ∙ ap (λ b. decided b (leb (whole_rows LineInfo s.line_info) l)) (le-leb (whole_rows FuncInfo s.func_info) f g)
-      ∙ ap (decided true) (le-leb (whole_rows LineInfo s.line_info) l h))
+  over_parts = over_is ∙ go (leb (whole_rows FuncInfo s.func_info) f) (over LineInfo s.line_info l)
+    where
+      go : (b : Bool) (x : Option Reply) → cond b x (some (reply 44 (table_number FuncInfo) f 0)) ≡ or_else (cond b none (some (reply 44 (table_number FuncInfo) f 0))) x
+      go true x = refl
+      go false x = refl

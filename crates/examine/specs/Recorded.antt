@@ -1,13 +1,14 @@
 -- A record of an image against its source record, over the bytes of tables 7 and 8.
 -- Assumes nothing.
-use Rattle.std.specs.Prelude.{cond, ◌&&◌, List, ℕ, zero, suc, ◌+◌, ◌-◌, ◌*◌, ◌≤◌, ◌<◌, ltb, length}
+use Rattle.std.specs.Prelude.{cond, ◌&&◌, List, ℕ, zero, suc, ◌+◌, ◌-◌, ◌*◌, ◌≤◌, ◌<◌, leb, ltb, length}
 use Rattle.std.proofs.Math.Option.{Option, none, some}
+use Rattle.rules.specs.declared.Table.{Table}
 use Rattle.rules.specs.declared.Table.TheVariants.{Functions, FuncInfo, LineInfo}
 use Rattle.rules.specs.Bytes.{little}
 use Rattle.rules.specs.Answers.{Reply, reply}
 use Rattle.rules.specs.Tables.{FunctionRecord, LineRecord}
 use Rattle.rules.specs.Records.{started_at, rebased}
-use Rattle.rules.specs.Rows.{row_size, most_rows, most_image_functions, most_image_lines, whole_rows, or_else, record_slot, func_info_row, line_info_row, function_slots, function_func_info, function_line_info}
+use Rattle.rules.specs.Rows.{row_size, most_rows, most_image_functions, most_image_lines, whole_rows, table_number, or_else, record_slot, func_info_row, line_info_row, function_slots, function_func_info, function_line_info}
 use Rattle.rules.specs.Examine.{same_function_record, same_line_record, first_wrong}
 use Rattle.merge.specs.declared.Used.{Used}
 use Rattle.merge.specs.Merge.{PartBegins, Lined, stray_in}
@@ -47,6 +48,10 @@ stray_of (suc k) row found = stray_reply row found
 abbrev pub Movable : ℕ → ℕ → ℕ → LineRecord → Type 0
 Movable zero origin start l = Unit {0}
 Movable (suc k) origin start l = (origin ≤ l.slot) × (start + (l.slot - origin) < 0x1_0000_0000)
+
+-- 44, of one table: more records than belong to the pieces
+abbrev pub over : Table → List ℕ → ℕ → Option Reply
+over table t most = cond (leb (whole_rows table t) most) none (some (reply 44 (table_number table) most 0))
 
 -- records inside their table, and a place in the image
 pub record Funcs (func_info : List ℕ) (first count at : ℕ) : Type 0 where

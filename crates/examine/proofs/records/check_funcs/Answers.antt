@@ -12,14 +12,14 @@ use Rattle.examine.proofs.records.check_funcs.Goals.{Start}
 use Rattle.examine.proofs.records.check_funcs.Goals as goal
 
 abbrev wrong : Start → ℕ → Option Reply
-wrong s = let a = s.args in func_wrong a.func_info.now a.first a.shown.now a.at a.k a.start.0
+wrong s = let a = s.args in func_wrong a.func_info.now a.piece.part.funcs a.shown.now a.piece.funcs a.piece.k a.piece.start.0
 
 pub returns-then-to-n : goal.returns-then-to-n
 returns-then-to-n c =
     let a = c.args in
     let l = c.loop-j in
     ap some c.finding.ensures
-    ∙ sym (l.invariant.same ∙ wrong_here (wrong (goal.at.returns-then-to-n c).Start) l.j a.count c.loop-j-test.true (func_missing a.func_info.now a.first a.shown.now a.at a.k a.start.0 l.j c.if-to-n.true))
+    ∙ sym (l.invariant.same ∙ wrong_here (wrong (goal.at.returns-then-to-n c).Start) l.j a.count c.loop-j-test.true (func_missing a.func_info.now a.piece.part.funcs a.shown.now a.piece.funcs a.piece.k a.piece.start.0 l.j c.if-to-n.true))
 
 pub returns-then-not-same_func : goal.returns-then-not-same_func
 returns-then-not-same_func c =
@@ -27,7 +27,7 @@ returns-then-not-same_func c =
     let l = c.loop-j in
     ap some c.finding-then-not-same_func.ensures
     ∙ sym (l.invariant.same ∙ wrong_here (wrong (goal.at.returns-then-not-same_func c).Start) l.j a.count c.loop-j-test.true
-    (func_differs a.func_info.now a.first a.shown.now a.at a.k a.start.0 l.j c.same_func.ensures c.if-to-n.false (not-true _ c.if-not-same_func.true-raw)))
+    (func_differs a.func_info.now a.piece.part.funcs a.shown.now a.piece.funcs a.piece.k a.piece.start.0 l.j c.same_func.ensures c.if-to-n.false (not-true _ c.if-not-same_func.true-raw)))
 
 pub loop-j-preserved : goal.loop-j-preserved
 loop-j-preserved c =
@@ -35,5 +35,5 @@ loop-j-preserved c =
     let l = c.loop-j in record {
       most = omega (arith, c.loop-j-test.true);
       same = l.invariant.same ∙ wrong_step (wrong (goal.at.loop-j-preserved c).Start) l.j a.count c.loop-j-test.true
-          (func_same a.func_info.now a.first a.shown.now a.at a.k a.start.0 l.j c.same_func.ensures c.if-to-n.false (not-false _ c.if-not-same_func.false-raw));
+          (func_same a.func_info.now a.piece.part.funcs a.shown.now a.piece.funcs a.piece.k a.piece.start.0 l.j c.same_func.ensures c.if-to-n.false (not-false _ c.if-not-same_func.false-raw));
     }

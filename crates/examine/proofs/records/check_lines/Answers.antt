@@ -12,14 +12,14 @@ use Rattle.examine.proofs.records.check_lines.Goals.{Start}
 use Rattle.examine.proofs.records.check_lines.Goals as goal
 
 abbrev wrong : Start → ℕ → Option Reply
-wrong s = let a = s.args in line_wrong a.line_info.now a.first a.shown.now a.at a.k a.start.0
+wrong s = let a = s.args in line_wrong a.line_info.now a.piece.part.lines a.shown.now a.piece.lines a.piece.k a.piece.start.0
 
 pub returns-then-to-n : goal.returns-then-to-n
 returns-then-to-n c =
     let a = c.args in
     let l = c.loop-j in
     ap some c.finding.ensures
-    ∙ sym (l.invariant.same ∙ wrong_here (wrong (goal.at.returns-then-to-n c).Start) l.j a.count c.loop-j-test.true (line_missing a.line_info.now a.first a.shown.now a.at a.k a.start.0 l.j c.if-to-n.true))
+    ∙ sym (l.invariant.same ∙ wrong_here (wrong (goal.at.returns-then-to-n c).Start) l.j a.count c.loop-j-test.true (line_missing a.line_info.now a.piece.part.lines a.shown.now a.piece.lines a.piece.k a.piece.start.0 l.j c.if-to-n.true))
 
 pub returns-then-not-same_line : goal.returns-then-not-same_line
 returns-then-not-same_line c =
@@ -27,7 +27,7 @@ returns-then-not-same_line c =
     let l = c.loop-j in
     ap some c.finding-then-not-same_line.ensures
     ∙ sym (l.invariant.same ∙ wrong_here (wrong (goal.at.returns-then-not-same_line c).Start) l.j a.count c.loop-j-test.true
-    (line_differs a.line_info.now a.first a.shown.now a.at a.k a.start.0 l.j c.line_info_slot-origin.ensures c.same_line.ensures c.if-to-n.false (not-true _ c.if-not-same_line.true-raw)))
+    (line_differs a.line_info.now a.piece.part.lines a.shown.now a.piece.lines a.piece.k a.piece.start.0 l.j c.line_info_slot-origin.ensures c.same_line.ensures c.if-to-n.false (not-true _ c.if-not-same_line.true-raw)))
 
 pub loop-j-preserved : goal.loop-j-preserved
 loop-j-preserved c =
@@ -35,5 +35,5 @@ loop-j-preserved c =
     let l = c.loop-j in record {
       most = omega (arith, c.loop-j-test.true);
       same = l.invariant.same ∙ wrong_step (wrong (goal.at.loop-j-preserved c).Start) l.j a.count c.loop-j-test.true
-          (line_same a.line_info.now a.first a.shown.now a.at a.k a.start.0 l.j c.line_info_slot-origin.ensures c.same_line.ensures c.if-to-n.false (not-false _ c.if-not-same_line.false-raw));
+          (line_same a.line_info.now a.piece.part.lines a.shown.now a.piece.lines a.piece.k a.piece.start.0 l.j c.line_info_slot-origin.ensures c.same_line.ensures c.if-to-n.false (not-false _ c.if-not-same_line.false-raw));
     }

@@ -12,7 +12,4 @@ pub record Looked (wrong : ℕ → Option Reply) (count j : ℕ) : Type 0 where
   pub same : first_wrong wrong 0 count ≡ first_wrong wrong j (count - j)
 
 abbrev pub invariant-loop-j : goal.invariant-loop-j
-invariant-loop-j l = Looked (line_wrong l.line_info l.first l.shown l.at l.k l.start.0) l.count l.j
-
-abbrev pub decreases-loop-j : goal.decreases-loop-j
-decreases-loop-j l = l.count - l.j
+invariant-loop-j l = Looked (line_wrong l.line_info l.piece.part.lines l.shown l.piece.lines l.piece.k l.piece.start.0) l.count l.j
