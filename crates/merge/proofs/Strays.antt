@@ -8,14 +8,13 @@ use Prim.Native.Nat.{ℕ, zero, suc, ◌+◌, ◌-◌, ◌≤◌, ◌<◌}
 use native.Mathlib.Omega.{arith}
 use native.Mathlib.Nat.{add-zero}
 use native.Mathlib.Numerals.{add-one}
-use borrow.Author.Tests.{le-leb, lt-leb, lt-ltb, le-ltb, leb-true, ltb-true}
+use borrow.Author.Tests.{le-leb, lt-ltb, leb-true, ltb-true}
 use lib.Dec.{leb, ltb}
 use lib.ListN.{length}
-use Rattle.rules.specs.declared.Table.TheVariants.{LineInfo}
 use Rattle.rules.specs.Bytes.{little}
 use Rattle.rules.specs.Link.{run}
 use Rattle.rules.specs.Tables.{LineRecord}
-use Rattle.rules.specs.Rows.{function_slots, function_line_info, record_slot, line_info_row, summed}
+use Rattle.rules.specs.Rows.{function_slots, function_line_info, line_info_row, summed}
 use Rattle.rules.specs.Records.{first_slot, stray}
 use Rattle.rules.proofs.Linking.{length_run}
 use Rattle.rules.proofs.Passed.{and_left, and_right}
@@ -46,15 +45,6 @@ module _ (slots origin : ℕ) (f : ℕ → LineRecord) where
     pub stray_step : k < n → origin ≤ (f (first + k)).slot → (f (first + k)).slot - origin < slots → left first n k ≡ left first n (k + 1)
     stray_step h low high = taken true h (ap (λ b. b && ltb ((f (first + k)).slot - origin) slots) (le-leb _ _ low) ∙ lt-ltb _ _ high)
 
-    pub stray_before : k < n → (f (first + k)).slot < origin → left first n k ≡ some k
-    stray_before h low = taken false h (ap (λ b. b && ltb ((f (first + k)).slot - origin) slots) (lt-leb _ _ low))
-
-    pub stray_past : k < n → origin ≤ (f (first + k)).slot → slots ≤ (f (first + k)).slot - origin → left first n k ≡ some k
-    stray_past h low high = taken false h (ap (λ b. b && ltb ((f (first + k)).slot - origin) slots) (le-leb _ _ low) ∙ le-ltb _ _ high)
-
-    pub stray_end : n ≤ k → left first n k ≡ none
-    stray_end h = let e : n - k ≡ 0 = omega arith in ap (λ m. stray slots origin k (run f (first + k) m)) e
-
   record Stays (k : ℕ) : Type 0 where
     low : origin ≤ (f k).slot
     high : (f k).slot - origin < slots
@@ -70,19 +60,6 @@ module _ (slots origin : ℕ) (f : ℕ → LineRecord) where
       go true g e later (suc k) l =
           let s : suc first + k ≡ first + suc k = omega arith in
           rw s at (later e k (omega arith))
-
--- where the loop begins, and where there is no record
-module _ (functions line_info : List ℕ) (row first count slots origin : ℕ) where
-  pub stray_start : slots ≡ function_slots functions row → first ≡ summed (function_line_info functions) 0 row → count ≡ function_line_info functions row
-      → origin ≡ record_slot little LineInfo line_info first → 0 < count → stray_in functions line_info row ≡ left slots origin (line_info_row little line_info) first count 0
-  stray_start es ef ec eo l =
-      let o : first_slot (run (line_info_row little line_info) first count) ≡ origin = first_slot_lem (line_info_row little line_info) first count l ∙ sym eo in
-      let f₀ : first + 0 ≡ first = omega arith in
-      let c₀ : count - 0 ≡ count = omega arith in
-      rw (← es, ← ef, ← ec, o, f₀, c₀)
-
-  pub stray_none : function_line_info functions row ≡ 0 → stray_in functions line_info row ≡ none
-  stray_none e = rw e
 
 -- no record strays, and the function ends below 2^32: each record can be moved
 pub near : (slots start : ℕ) (t : List ℕ) (first n : ℕ) → start + slots < 0x1_0000_0000
