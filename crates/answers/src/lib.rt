@@ -5,7 +5,7 @@ ghost use Rattle.std.specs.Prelude.{◌≡◌};
 ghost use Rattle.rules.specs.Answers.{reply, number_of, places_of, refused_reply, reply_of};
 ghost use Rattle.answers.specs.Told.{Told};
 
-use rules::{Answer, Cause, Places, Refusal};
+use rules::{Cause, Places, Refusal};
 use wire::put_places;
 
 // A cause with the two place numbers that document 01 names; the rest are 0.
@@ -58,29 +58,26 @@ pub fn number_of(cause: Cause) -> u32
     }
 }
 
-pub fn number(answer: Answer) -> u32
+pub fn number(answer: Result<Places, Refusal>) -> u32
     ensures { result ≡ (reply_of answer).number }
 {
     match answer {
-        Answer::Done(_) => 0,
-        Answer::Refused(refusal) => {
-            let cause = refusal.cause;
-            number_of(cause)
-        }
+        Ok(_) => 0,
+        Err(refusal) => number_of(refusal.cause),
     }
 }
 
-pub fn places(answer: Answer) -> Places
+pub fn places(answer: Result<Places, Refusal>) -> Places
     ensures { places_of result ≡ (reply_of answer).places }
 {
     match answer {
-        Answer::Done(places) => places,
-        Answer::Refused(refusal) => refusal.places,
+        Ok(places) => places,
+        Err(refusal) => refusal.places,
     }
 }
 
 // Returns the number, and writes the place numbers.
-pub fn tell(answer: Answer, out: &mut [u8]) -> u32
+pub fn tell(answer: Result<Places, Refusal>, out: &mut [u8]) -> u32
     ensures { Told out.old out.new result (reply_of answer) }
 {
     let three = places(answer);

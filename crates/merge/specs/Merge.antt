@@ -6,6 +6,7 @@ use Rattle.rules.specs.declared.Table.TheVariants.{Functions, Instructions, Func
 use Rattle.rules.specs.Bytes.{little, bytes4, splice}
 use Rattle.rules.specs.Link.{run}
 use Rattle.rules.specs.Tables.{FunctionRecord, LineRecord}
+use Rattle.rules.specs.declared.Image.{Image}
 use Rattle.rules.specs.Lent.{Buffers}
 use Rattle.rules.specs.Rows.{row_size, most_rows, whole_rows, Offered, function_slots, function_func_info, function_line_info, record_slot, func_info_row, line_info_row, summed}
 use Rattle.rules.specs.Records.{Room, started_at, rebased, first_slot, stray}
@@ -47,6 +48,15 @@ pub record Counts (slots funcs lines : ℕ) (used : Used) : Type 0 where
   pub slots_are : used.slots ≡ slots
   pub funcs_are : used.funcs ≡ funcs
   pub lines_are : used.lines ≡ lines
+
+-- two of them together, which a u32 holds each
+abbrev pub sum : Used → Used → Used
+sum a b = record { slots = a.slots + b.slots; funcs = a.funcs + b.funcs; lines = a.lines + b.lines }
+
+pub record Addable (a b : Used) : Type 0 where
+  pub few_slots : a.slots + b.slots < 0x1_0000_0000
+  pub few_funcs : a.funcs + b.funcs < 0x1_0000_0000
+  pub few_lines : a.lines + b.lines < 0x1_0000_0000
 
 -- what a row of table 3 counts, and what the rows before it do
 abbrev pub RowCounts : List ℕ → ℕ → Used → Type 0
@@ -104,6 +114,12 @@ pub record Nearby (line_info : List ℕ) (first start k : ℕ) : Type 0 where
 
 abbrev pub Near : List ℕ → ℕ → ℕ → ℕ → Type 0
 Near line_info first count start = (k : ℕ) → k < count → Nearby line_info first start k
+
+-- the same three outputs, whatever they hold
+pub record SameOutputs (image image' : Image) : Type 0 where
+  pub slots_same : image'.slots.ghost_name ≡ image.slots.ghost_name
+  pub funcs_same : image'.func_info.ghost_name ≡ image.func_info.ghost_name
+  pub lines_same : image'.line_info.ghost_name ≡ image.line_info.ghost_name
 
 pub record Extends (o : Offered) (b : Buffers) (used : Used) (row : ℕ) (part : Used) : Type 0 where
   pub parts : Parts o row

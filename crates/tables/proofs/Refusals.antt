@@ -11,11 +11,11 @@ use denote.Enum.Declared.{tag_of}
 use types.Run.{OneOf, miss}
 use Rattle.rules.specs.declared.Table.{Table}
 use Rattle.rules.specs.declared.Table.TheVariants.{Functions}
-use Rattle.rules.specs.declared.Judgement.{Judgement}
-use Rattle.rules.specs.declared.Judgement.TheVariants.{Passes, Refused}
+use Rattle.std.specs.Prelude.{Result}
+use Rattle.rules.specs.declared.Refusal.{Refusal}
+use Rattle.std.specs.Prelude.{Ok, Err}
 use Rattle.rules.specs.Answers.{Reply, reply, refusal_in}
 use Rattle.rules.specs.Rows.{row_size, most_rows, whole_rows, is_partial, is_too_many, table_number, first_from, or_partial, first_broken, Offered, bytes_of, too_many, broken_in, or_broken, broken, or_else}
-use Rattle.rules.specs.contracts.Judgement.{the_type}
 use Rattle.rules.proofs.Searches.{found_passes}
 use Rattle.rules.proofs.Passed.{few_whole}
 use Rattle.tables.specs.Folds.{or_too_many}
@@ -65,10 +65,13 @@ all_few o (table ∷ tables) e = go (is_too_many table (bytes_of o table)) refl 
     go true f e later = let z : ◌≡◌ {A = ℕ} 0 1 = cc in absurd (omega arith)
     go false f e later = (f, later e)
 
--- what is not passed is refused
-pub stands : (r : Judgement) → OneOf (1 ∷ []) (tag_of the_type r) → (later : Option Reply) → refusal_in r ≡ or_else (refusal_in r) later
-stands Passes h later = absurd (miss (1 ∷ []) 0 tt h)
-stands (Refused why) h later = refl
+-- what `?` hands on is what was refused
+pub refused_on : (r s : Result (Unit {0}) Refusal) (why : Refusal) → r ≡ Err why → s ≡ Err why → refusal_in s ≡ refusal_in r
+refused_on r s why e f = ap refusal_in (f ∙ sym e)
+
+-- what is refused stands
+pub stands : (r : Result (Unit {0}) Refusal) (why : Refusal) → r ≡ Err why → (later : Option Reply) → refusal_in r ≡ or_else (refusal_in r) later
+stands r why e later = rw e
 
 module _ {o : Offered} {tables : List Table} {r : Option Reply} (m : ManyIs o tables r) where
   -- nothing refused: no table has too many. Else that refusal

@@ -13,7 +13,7 @@ use denote.Enum.Declared.{tag_of}
 use types.Run.{OneOf, miss}
 use Rattle.rules.specs.declared.Table.{Table}
 use Rattle.rules.specs.declared.Table.TheVariants.{Code, Symbols, Functions, Relocations, Maps, Instructions, FuncInfo, LineInfo}
-use Rattle.rules.specs.declared.Found.TheVariants.{At, Nothing}
+use Rattle.std.specs.Prelude.{Some, None}
 use Rattle.rules.specs.Rows.{row_size, whole_rows, is_partial, is_good, first_from, or_partial, first_broken, count_of}
 use Rattle.rules.specs.Lookups.{found_of}
 use Rattle.rules.specs.contracts.Table.{the_type}
@@ -35,16 +35,16 @@ module _ (table : Table) (t : List ℕ) (size : ℕ) (is : size ≡ row_size tab
   unfolding first_broken
   scanned o e = ap (λ x. found_of (or_partial x (is_partial table t) (whole_rows table t))) (ap (λ s. first_from (is_bad table t) 0 (length t / s)) (sym is) ∙ e)
 
-  pub broken_at : (k : ℕ) → first_from (is_bad table t) 0 (length t / size) ≡ some k → At k ≡ found_of (first_broken table t)
+  pub broken_at : (k : ℕ) → first_from (is_bad table t) 0 (length t / size) ≡ some k → Some k ≡ found_of (first_broken table t)
   broken_at k e = sym (scanned (some k) e)
 
-  pub whole_good : first_from (is_bad table t) 0 (length t / size) ≡ none → length t % size ≡ 0 → Nothing ≡ found_of (first_broken table t)
+  pub whole_good : first_from (is_bad table t) 0 (length t / size) ≡ none → length t % size ≡ 0 → None ≡ found_of (first_broken table t)
   whole_good e z =
       sym (scanned none e ∙ ap (λ b. found_of (or_partial none (not b) (whole_rows table t))) (eq-eqb (length t % row_size table) 0 (ap (λ s. length t % s) (sym is) ∙ z)))
 
-  pub partial_last : first_from (is_bad table t) 0 (length t / size) ≡ none → (length t % size ≡ 0 → ⊥) → At (length t / size) ≡ found_of (first_broken table t)
+  pub partial_last : first_from (is_bad table t) 0 (length t / size) ≡ none → (length t % size ≡ 0 → ⊥) → Some (length t / size) ≡ found_of (first_broken table t)
   partial_last e z =
-      ap (λ s. At (length t / s)) is
+      ap (λ s. Some (length t / s)) is
       ∙ sym (scanned none e ∙ ap (λ b. found_of (or_partial none (not b) (whole_rows table t))) (ne_eqb (length t % row_size table) 0 (λ y. z (ap (λ s. length t % s) is ∙ y))))
 
 -- the tables whose rows are not judged, and those of which nothing is added up

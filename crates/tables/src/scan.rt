@@ -4,23 +4,22 @@ ghost use Rattle.rules.specs.Lookups.{found_of};
 ghost use Rattle.rules.specs.Rows.{first_broken};
 
 use crate::good::is_good;
-use crate::limits::row_size;
-use rules::{Found, Table};
+use rules::Table;
 
-pub fn first_broken(table: Table, t: &[u8]) -> Found
+pub fn first_broken(table: Table, t: &[u8]) -> Option<usize>
     ensures { result ≡ found_of (first_broken table t.now) }
 {
-    let size = row_size(table);
+    let size = table.row_size();
     let n = t.len() / size;
     let mut k = 0;
     while k < n {
         if !is_good(table, t, k) {
-            return Found::At(k);
+            return Some(k);
         }
         k += 1;
     }
     if t.len() % size == 0 {
-        return Found::Nothing;
+        return None;
     }
-    Found::At(n)
+    Some(n)
 }

@@ -10,7 +10,7 @@ use Rattle.merge.proofs.stray_line.Goals.{At-loop-k}
 use Rattle.merge.proofs.stray_line.Goals as goal
 
 abbrev slots_of_lem : At-loop-k → ℕ
-slots_of_lem c = c.function_slots-own.result.0
+slots_of_lem c = c.function_slots-slots.result.0
 
 abbrev origin_of : At-loop-k → ℕ
 origin_of c = c.line_info_slot-origin.result
@@ -29,5 +29,5 @@ loop-k-preserved c =
     record {
       most = omega (arith, c.loop-k-test.true);
       same = c.loop-k.invariant.same ∙ stray_step (slots_of_lem (goal.at.loop-k-preserved c).At-loop-k) (origin_of (goal.at.loop-k-preserved c).At-loop-k) (row_of_lem (goal.at.loop-k-preserved c).At-loop-k) (first_of (goal.at.loop-k-preserved c).At-loop-k) (count_of (goal.at.loop-k-preserved c).At-loop-k) c.loop-k.k c.loop-k-test.true
-          (omega (arith, c.line_info_slot-slot.ensures, c.if-slot-origin.false)) (omega (arith, c.line_info_slot-slot.ensures, c.if-slot-origin.false, c.if-after-slots.false));
+          (omega (arith, c.line_info_slot-slot.ensures, c.if-slot-origin.false)) (omega (arith, c.line_info_slot-slot.ensures, c.if-slot-origin.false, c.if-slot-origin-2.false));
     }

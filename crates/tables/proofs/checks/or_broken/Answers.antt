@@ -6,17 +6,17 @@ use native.Mathlib.Omega.{arith}
 use Rattle.rules.specs.Rows.{first_broken}
 use Rattle.rows.proofs.Laws.{found_some}
 use Rattle.tables.proofs.Refusals.{broken_low}
-use Rattle.tables.proofs.checks.or_broken.Goals.{After-table_number}
+use Rattle.tables.proofs.checks.or_broken.Goals.{After-number}
 use Rattle.tables.proofs.checks.or_broken.Goals as goal
 
-row_found : (c : After-table_number) → first_broken c.args.table c.args.t.now ≡ some c.in-At.k
+row_found : (c : After-number) → first_broken c.args.table c.args.t.now ≡ some c.in-Some.k
 row_found c =
     let a = c.args in
-    found_some (first_broken a.table a.t.now) c.in-At.k (sym c.first_broken.ensures ∙ c.in-At.is)
+    found_some (first_broken a.table a.t.now) c.in-Some.k (sym c.first_broken.ensures ∙ c.in-Some.is)
 
-row_low : (c : After-table_number) → c.in-At.k ≤ 0xFFFF_FFFF
+row_low : (c : After-number) → c.in-Some.k ≤ 0xFFFF_FFFF
 row_low c =
-    broken_low c.args.table c.args.t.now c.in-At.k c.requires (row_found c)
+    broken_low c.args.table c.args.t.now c.in-Some.k c.requires (row_found c)
 
 pub overflow_cast-k : goal.overflow_cast-k
 overflow_cast-k c = record { fits = omega (arith, row_low c) }

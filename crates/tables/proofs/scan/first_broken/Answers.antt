@@ -12,7 +12,7 @@ pub returns-then-not-is_good : goal.returns-then-not-is_good
 returns-then-not-is_good c =
     let a = c.args in
     let r = c.row_size-size in
-    broken_at a.table a.t.now r.result r.ensures c.loop-k.k
+    broken_at a.table a.t.now r.result r.ensures.0 c.loop-k.k
     (c.loop-k.invariant.1 ∙ first_hit (is_bad a.table a.t.now) c.loop-k.k (length a.t.now / r.result) c.loop-k-test.true (ap not (sym c.is_good.ensures) ∙ c.if-not-is_good.true-raw))
 
 pub loop-k-preserved : goal.loop-k-preserved
@@ -27,7 +27,7 @@ pub returns-then-t-size-eq0 : goal.returns-then-t-size-eq0
 returns-then-t-size-eq0 c =
     let a = c.args in
     let r = c.row_size-size in
-    whole_good a.table a.t.now r.result r.ensures
+    whole_good a.table a.t.now r.result r.ensures.0
     (c.loop-k.invariant.1 ∙ first_end (is_bad a.table a.t.now) c.loop-k.k (length a.t.now / r.result) c.loop-k-test.false)
     c.if-t-size-eq0.true
 
@@ -35,6 +35,6 @@ pub returns : goal.returns
 returns c =
     let a = c.args in
     let r = c.row_size-size in
-    partial_last a.table a.t.now r.result r.ensures
+    partial_last a.table a.t.now r.result r.ensures.0
     (c.loop-k.invariant.1 ∙ first_end (is_bad a.table a.t.now) c.loop-k.k (length a.t.now / r.result) c.loop-k-test.false)
     c.if-t-size-eq0.false
