@@ -1,12 +1,12 @@
 // The records of a piece, each against its source record (42, 43, and the link's own 12), and those that are over (44).
-ghost use Rattle.std.specs.Prelude.{◌≡◌, [], ◌+◌, ◌*◌, ◌≤◌, length};
+ghost use Rattle.std.specs.Prelude.{◌≡◌, Bool, ℕ, [], ◌+◌, ◌*◌, ◌≤◌, ◌<◌, length};
 ghost use Rattle.rules.specs.declared.Table.TheVariants.{FuncInfo, LineInfo};
 ghost use Rattle.rules.specs.Bytes.{little};
-ghost use Rattle.rules.specs.Answers.{refusal_in};
+ghost use Rattle.rules.specs.Answers.{number_of, refusal_in};
 ghost use Rattle.rules.specs.Rows.{row_size, link_offer, tables_of, func_info_row, line_info_row};
 ghost use Rattle.merge.specs.Merge.{stray_in};
-ghost use Rattle.rules.specs.Examine.{same_function_record, same_line_record, first_wrong, shown, claim_of, over_wrong};
-ghost use Rattle.examine.specs.Recorded.{func_of, line_of, func_wrong, line_wrong, stray_of, records_wrong, over, Movable, Funcs, Lines, Strays, Recorded};
+ghost use Rattle.rules.specs.Examine.{first_wrong, shown, claim_of, over_wrong};
+ghost use Rattle.examine.specs.Recorded.{func_read, line_read, func_of, line_of, record_wrong, Decides, func_wrong, line_wrong, stray_of, records_wrong, over, Movable, Funcs, Lines, Strays, Recorded};
 
 use crate::piece::Piece;
 use answers::{finding, refusal};
@@ -18,96 +18,120 @@ use rows::fields::{
 use rules::limits::{FUNC_INFO_SIZE, LINE_INFO_SIZE};
 use rules::{Cause, Program, Refusal, Slot, Table};
 
-// The slot that function record i should have in a piece: the first piece's is its own.
-fn func_slot(func_info: &[u8], i: usize, k: u32, start: Slot) -> u32
-    requires { row_size FuncInfo * i + row_size FuncInfo ≤ length func_info.now }
-    ensures { result ≡ (func_of k start.0 (func_info_row little func_info.now i)).slot }
-{
-    if k == 0 { // the root's rule
-        return func_info_slot(func_info, i);
-    }
-    start.0
+// A record of table 7.
+#[derive(Clone, Copy, PartialEq, Eq)]
+struct FuncRecord {
+    slot: u32,
+    kind: u32,
 }
 
-// Record i, as piece k has it, against record j of the image.
-fn same_func(func_info: &[u8], i: usize, shown: &[u8], j: usize, k: u32, start: Slot) -> bool
-    requires { (row_size FuncInfo * i + row_size FuncInfo ≤ length func_info.now)
-        × (row_size FuncInfo * j + row_size FuncInfo ≤ length shown.now) }
-    ensures { result ≡ same_function_record (func_info_row little shown.now j) (func_of k start.0 (func_info_row little func_info.now i)) }
-{
-    if func_info_slot(shown, j) != func_slot(func_info, i, k, start) {
-        return false;
-    }
-    func_info_type(shown, j) == func_info_type(func_info, i)
-}
-
-// A piece's function records, `count` of table 7, against those that should be the image's.
-fn check_funcs(func_info: &[u8], shown: &[u8], piece: Piece, count: u32) -> Result<(), Refusal>
-    requires { Funcs func_info.now piece.part.funcs count piece.funcs }
-    ensures { refusal_in result
-        ≡ first_wrong (func_wrong func_info.now piece.part.funcs shown.now piece.funcs piece.k piece.start.0) 0 count }
-{
-    let n = shown.len() / FUNC_INFO_SIZE;
-    for j in 0..count {
-        let to = piece.funcs + j;
-        if to as usize >= n {
-            return Err(finding(Cause::FuncInfoDiffers, piece.k, j, to));
+impl FuncRecord {
+    fn read(t: &[u8], i: usize) -> FuncRecord
+        requires { row_size FuncInfo * i + row_size FuncInfo ≤ length t.now }
+        ensures { func_read result ≡ func_info_row little t.now i }
+    {
+        FuncRecord {
+            slot: func_info_slot(t, i),
+            kind: func_info_type(t, i),
         }
-        let from = piece.part.funcs + j;
-        if !same_func(
-            func_info,
-            from as usize,
-            shown,
-            to as usize,
-            piece.k,
-            piece.start,
-        ) {
-            return Err(finding(Cause::FuncInfoDiffers, piece.k, j, to));
+    }
+
+    // As piece k should have it.
+    fn placed(self, k: u32, start: Slot) -> FuncRecord
+        ensures { func_read result ≡ func_of k start.0 (func_read self) }
+    {
+        if k == 0 { // the root's rule
+            return self;
+        }
+        FuncRecord {
+            slot: start.0,
+            ..self
+        }
+    }
+}
+
+// A record of table 8.
+#[derive(Clone, Copy, PartialEq, Eq)]
+struct LineRecord {
+    slot: u32,
+    file: u32,
+    line: u32,
+    column: u32,
+}
+
+impl LineRecord {
+    fn read(t: &[u8], i: usize) -> LineRecord
+        requires { row_size LineInfo * i + row_size LineInfo ≤ length t.now }
+        ensures { line_read result ≡ line_info_row little t.now i }
+    {
+        LineRecord {
+            slot: line_info_slot(t, i),
+            file: line_info_file(t, i),
+            line: line_info_line(t, i),
+            column: line_info_column(t, i),
+        }
+    }
+
+    // As piece k should have it, whose first line record has the slot `origin` in table 8.
+    fn placed(self, k: u32, origin: u32, start: Slot) -> LineRecord
+        requires { Movable k origin start.0 (line_read self) }
+        ensures { line_read result ≡ line_of k origin start.0 (line_read self) }
+    {
+        if k == 0 {
+            return self;
+        }
+        LineRecord {
+            slot: start.0 + (self.slot - origin),
+            ..self
+        }
+    }
+}
+
+// Records of piece k, `count` of them, which should stand from `at` on among n of the image: the first that does not. `same` says whether
+// record j of the piece is that record of the image.
+fn check_run<F: Fn(u32, u32) -> bool>(
+    cause: Cause,
+    k: u32,
+    n: usize,
+    at: u32,
+    count: u32,
+    same: F,
+) -> Result<(), Refusal>
+    requires low { at + count < 0x1_0000_0000 }
+    requires asks { (j : ℕ) → j < count → at + j < n → F.pre same j (at + j) }
+    ensures { (test : ℕ → Bool) → Decides (λ j to b. F.post same j to b) count n at test
+        → refusal_in result ≡ first_wrong (record_wrong (number_of cause) k n at test) 0 count }
+{
+    for j in 0..count {
+        let to = at + j;
+        if to as usize >= n || !same(j, to) {
+            return Err(finding(cause, k, j, to));
         }
     }
     Ok(())
 }
 
-// The slot that line record i should have in a piece, whose first line record has the slot `origin` in table 8.
-fn line_slot(line_info: &[u8], i: usize, k: u32, origin: u32, start: Slot) -> u32
-    requires { (row_size LineInfo * i + row_size LineInfo ≤ length line_info.now)
-        × Movable k origin start.0 (line_info_row little line_info.now i) }
-    ensures { result ≡ (line_of k origin start.0 (line_info_row little line_info.now i)).slot }
+// A piece's function records, `count` of table 7.
+fn check_funcs(func_info: &[u8], shown: &[u8], piece: Piece, count: u32) -> Result<(), Refusal>
+    requires { Funcs func_info.now piece.part.funcs count piece.funcs }
+    ensures { refusal_in result
+        ≡ first_wrong (func_wrong func_info.now piece.part.funcs shown.now piece.funcs piece.k piece.start.0) 0 count }
 {
-    let slot = line_info_slot(line_info, i);
-    if k == 0 {
-        return slot;
-    }
-    start.0 + (slot - origin)
+    let Piece {
+        k,
+        start,
+        part,
+        funcs,
+        ..
+    } = piece;
+    let n = shown.len() / FUNC_INFO_SIZE;
+    check_run(Cause::FuncInfoDiffers, k, n, funcs, count, |j, to| {
+        let own = FuncRecord::read(func_info, (part.funcs + j) as usize);
+        FuncRecord::read(shown, to as usize) == own.placed(k, start)
+    })
 }
 
-fn same_line(
-    line_info: &[u8],
-    i: usize,
-    shown: &[u8],
-    j: usize,
-    k: u32,
-    origin: u32,
-    start: Slot,
-) -> bool
-    requires { (row_size LineInfo * i + row_size LineInfo ≤ length line_info.now)
-        × ((row_size LineInfo * j + row_size LineInfo ≤ length shown.now)
-        × Movable k origin start.0 (line_info_row little line_info.now i)) }
-    ensures { result ≡ same_line_record (line_info_row little shown.now j) (line_of k origin start.0 (line_info_row little line_info.now i)) }
-{
-    if line_info_slot(shown, j) != line_slot(line_info, i, k, origin, start) {
-        return false;
-    }
-    if line_info_file(shown, j) != line_info_file(line_info, i) {
-        return false;
-    }
-    if line_info_line(shown, j) != line_info_line(line_info, i) {
-        return false;
-    }
-    line_info_column(shown, j) == line_info_column(line_info, i)
-}
-
-// The same of line records, `count` of table 8.
+// Its line records, `count` of table 8.
 fn check_lines(line_info: &[u8], shown: &[u8], piece: Piece, count: u32) -> Result<(), Refusal>
     requires { Lines line_info.now piece.part.lines count piece.lines piece.k piece.start.0 }
     ensures { refusal_in result
@@ -116,27 +140,19 @@ fn check_lines(line_info: &[u8], shown: &[u8], piece: Piece, count: u32) -> Resu
     if count == 0 {
         return Ok(());
     }
+    let Piece {
+        k,
+        start,
+        part,
+        lines,
+        ..
+    } = piece;
+    let origin = line_info_slot(line_info, part.lines as usize);
     let n = shown.len() / LINE_INFO_SIZE;
-    let origin = line_info_slot(line_info, piece.part.lines as usize);
-    for j in 0..count {
-        let to = piece.lines + j;
-        if to as usize >= n {
-            return Err(finding(Cause::LineInfoDiffers, piece.k, j, to));
-        }
-        let from = piece.part.lines + j;
-        if !same_line(
-            line_info,
-            from as usize,
-            shown,
-            to as usize,
-            piece.k,
-            origin,
-            piece.start,
-        ) {
-            return Err(finding(Cause::LineInfoDiffers, piece.k, j, to));
-        }
-    }
-    Ok(())
+    check_run(Cause::LineInfoDiffers, k, n, lines, count, |j, to| {
+        let own = LineRecord::read(line_info, (part.lines + j) as usize);
+        LineRecord::read(shown, to as usize) == own.placed(k, origin, start)
+    })
 }
 
 // The link's own 12, for every piece but the first.
