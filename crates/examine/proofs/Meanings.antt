@@ -1,12 +1,12 @@
 -- A slot's judgement by the code's answer is the definitions' own; and what the loop over a piece's slots asks.
 -- Assumes nothing.
 use mathlib.Core.Path.{◌≡◌, refl, sym, ap, subst, ◌∙◌}
-use mathlib.Core.Bool.{Bool, true, false, cond}
+use mathlib.Core.Bool.{Bool, true, false, cond, ◌&&◌}
 use mathlib.Core.Option.{Option, some}
 use mathlib.Core.List.{List, []}
 use Prim.Native.Nat.{ℕ, ◌+◌, ◌≤◌, ◌<◌}
 use native.Mathlib.Omega.{arith}
-use borrow.Author.Tests.{eq-eqb, ne_eqb}
+use lib.Dec.{eqb}
 use Rattle.rules.specs.declared.Table.TheVariants.{Functions}
 use Rattle.std.specs.Prelude as prelude
 use Rattle.std.specs.Prelude.{Some, None, Ok, Err}
@@ -31,19 +31,24 @@ use Rattle.resolve.proofs.Laws.{points_inside}
 use Rattle.resolve.proofs.Slots.{end_inside, insn_at}
 use Rattle.examine.specs.Compared.{Compares, Callable, Visits, call_wrong, reference_wrong, meant_wrong}
 
--- ---- what a reference may not change, field by field
+-- ---- what a reference may not change: opcode and destination, and the offset
 module _ (i j : Insn) where
-  pub opcodes_differ : (i.opcode ≡ j.opcode → ⊥) → false ≡ same_form i j
-  unfolding same_form
-  opcodes_differ n = rw (ne_eqb i.opcode j.opcode n)
+  abbrev heads : Bool
+  heads = eqb i.opcode j.opcode && eqb i.destination j.destination
 
-  pub destinations_differ : i.opcode ≡ j.opcode → (i.destination ≡ j.destination → ⊥) → false ≡ same_form i j
+  form_is : same_form i j ≡ (heads && same_number i.offset j.offset)
   unfolding same_form
-  destinations_differ e n = rw (eq-eqb i.opcode j.opcode e, ne_eqb i.destination j.destination n)
+  form_is = go (eqb i.opcode j.opcode)
+    where
+      go : (b : Bool) → (b && (eqb i.destination j.destination && same_number i.offset j.offset)) ≡ ((b && eqb i.destination j.destination) && same_number i.offset j.offset)
+      go true = refl
+      go false = refl
 
-  pub offsets : i.opcode ≡ j.opcode → i.destination ≡ j.destination → same_number i.offset j.offset ≡ same_form i j
-  unfolding same_form
-  offsets e f = rw (eq-eqb i.opcode j.opcode e, eq-eqb i.destination j.destination f)
+  pub forms_differ : (eqb i.opcode j.opcode && eqb i.destination j.destination) ≡ false → false ≡ same_form i j
+  forms_differ e = sym (form_is ∙ ap (λ b. b && same_number i.offset j.offset) e)
+
+  pub offsets : (eqb i.opcode j.opcode && eqb i.destination j.destination) ≡ true → same_number i.offset j.offset ≡ same_form i j
+  offsets e = sym (form_is ∙ ap (λ b. b && same_number i.offset j.offset) e)
 
 -- ---- by the answer of the code
 abbrev Meant : Type 0

@@ -31,13 +31,9 @@ fn same_form(a: &[u8], i: Slot, b: &[u8], j: Slot) -> bool
     requires { Slots a.now i.0 b.now j.0 }
     ensures { result ≡ same_form (slot_in little a.now i.0) (slot_in little b.now j.0) }
 {
-    if opcode(a, i) != opcode(b, j) {
-        return false;
-    }
-    if destination(a, i) != destination(b, j) {
-        return false;
-    }
-    u16_at(a, start_of(i) + 2) == u16_at(b, start_of(j) + 2)
+    opcode(a, i) == opcode(b, j)
+        && destination(a, i) == destination(b, j)
+        && u16_at(a, start_of(i) + 2) == u16_at(b, start_of(j) + 2)
 }
 
 // All that a call may not change: one word.
