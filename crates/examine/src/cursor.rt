@@ -45,10 +45,9 @@ impl<'a> Cursor<'a> {
             ..
         } = self;
         let n = relocations.len() / RELOCATION_SIZE;
-        let mut row = from;
-        while row < n && is_relocation_before(relocations, row, home, offset) {
-            row += 1;
-        }
+        let row = (from..n)
+            .find(|k| !is_relocation_before(relocations, *k, home, offset))
+            .unwrap_or(n);
         Cursor {
             relocations,
             home,
