@@ -7,38 +7,16 @@ use native.Mathlib.Omega.{arith}
 use native.Mathlib.Nat.{add-zero, mul-zero, mul-suc, mul-le-mul_left}
 use native.Mathlib.Numerals.{add-one}
 use lib.ListN.{length, take, drop, length-append}
-use lib.Seq.{length-take-le, take_at, drop-append-add, drop-drop, take-add, paste-zero}
+use lib.Seq.{drop-drop, take-add}
 use Rattle.rules.specs.Bytes.{little, u32_at, bytes4, splice, AreBytes}
 use Rattle.rules.specs.Link.{run}
 use Rattle.rules.specs.Tables.{FunctionRecord, LineRecord}
 use Rattle.rules.specs.Rows.{record_slot, record_type, record_file, record_line, record_column, func_info_row, line_info_row}
 use Rattle.rules.specs.Entries.{func_info_bytes, line_info_bytes}
+use Rattle.rules.proofs.Splices.{splice_more}
 use Rattle.rules.proofs.Linking.{length_run}
 use Rattle.rules.proofs.Rounds.{bytes4_at, from_part}
 use Rattle.merge.specs.Merge.{pair_bytes}
-
--- ---- a splice of nothing, and one right after another
-pub splice_nothing : (d : List ℕ) (p : ℕ) → d ≡ splice d p []
-unfolding splice
-splice_nothing d p = paste-zero d p []
-
-module _ (d : List ℕ) (p : ℕ) (xs ys : List ℕ) (q : ℕ) (next : q ≡ p + length xs) (fits : q + length ys ≤ length d) where
-  head : length (take p d ++ xs) ≡ q
-  head = length-append (take p d) xs ∙ omega (arith, length-take-le p d (omega arith))
-
-  rest : drop (q + length ys) ((take p d ++ xs) ++ drop (p + length xs) d) ≡ drop (p + length (xs ++ ys)) d
-  rest =
-      ap (λ (n : ℕ). drop (n + length ys) ((take p d ++ xs) ++ drop (p + length xs) d)) (sym head)
-      ∙ drop-append-add (take p d ++ xs) (drop (p + length xs) d) (length ys)
-      ∙ drop-drop (length ys) (p + length xs) d
-      ∙ ap (λ (n : ℕ). drop n d) (let e : p + length xs + length ys ≡ p + length (xs ++ ys) = omega (arith, length-append xs ys) in e)
-
-  pub splice_more : splice (splice d p xs) q ys ≡ splice d p (xs ++ ys)
-  unfolding splice
-  splice_more =
-      ap (λ (l : List ℕ). l ++ ys ++ drop (q + length ys) ((take p d ++ xs) ++ drop (p + length xs) d)) (take_at (take p d ++ xs) (drop (p + length xs) d) q head)
-      ∙ ap (λ (l : List ℕ). (take p d ++ xs) ++ ys ++ l) rest
-      ∙ ap (λ (l : List ℕ). l ++ drop (p + length (xs ++ ys)) d) (append_assoc (take p d) xs ys)
 
 -- ---- runs
 pub run_more : {A : Type 0} (f : ℕ → A) (from n : ℕ) → run f from (n + 1) ≡ run f from n ++ (f (from + n) ∷ [])

@@ -12,8 +12,9 @@ use Rattle.rules.specs.Tables.{FunctionRecord, LineRecord}
 use Rattle.rules.specs.Rows.{record_slot, record_type, record_file, record_line, record_column, func_info_row, line_info_row}
 use Rattle.rules.specs.Records.{started_at, rebased, first_slot}
 use Rattle.rules.specs.Entries.{func_info_bytes, line_info_bytes}
+use Rattle.rules.proofs.Splices.{splice_nothing, splice_more}
 use Rattle.merge.specs.Merge.{pair_bytes}
-use Rattle.merge.proofs.Laws.{splice_nothing, splice_more, func_linked, line_linked, packed, put_more, func_one, line_one, func_sized, line_sized}
+use Rattle.merge.proofs.Laws.{func_linked, line_linked, packed, put_more, func_one, line_one, func_sized, line_sized}
 
 abbrev pub started : ℕ → List ℕ → ℕ → FunctionRecord
 started start t k = started_at start (func_info_row little t k)

@@ -5,7 +5,7 @@ use Prim.Native.Nat.{ℕ, ◌+◌}
 use native.Mathlib.Omega.{arith}
 use Rattle.rules.specs.Bytes.{little, bytes4, splice}
 use Rattle.merge.specs.Merge.{pair_bytes}
-use Rattle.merge.proofs.Laws.{splice_more}
+use Rattle.rules.proofs.Splices.{splice_more}
 use Rattle.merge.proofs.put_pair.Goals as goal
 
 pub returns : goal.returns

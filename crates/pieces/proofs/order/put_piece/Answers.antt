@@ -6,7 +6,7 @@ use native.Mathlib.Omega.{arith}
 use Rattle.rules.specs.Bytes.{little, bytes4, splice}
 use Rattle.rules.specs.Pieces.{piece_size}
 use Rattle.pieces.specs.InOrder.{piece_bytes}
-use Rattle.pieces.proofs.Listing.{splice_more}
+use Rattle.rules.proofs.Splices.{splice_more}
 use Rattle.pieces.proofs.order.put_piece.Goals as goal
 
 pub returns : goal.returns
