@@ -9,6 +9,7 @@ use native.Mathlib.Numerals.{add-one}
 use lib.ListN.{length, take, drop, length-append}
 use lib.Seq.{drop-drop, take-add}
 use Rattle.rules.specs.Bytes.{little, u32_at, bytes4, splice, AreBytes}
+use Rattle.rules.specs.Answers.{numbers}
 use Rattle.rules.specs.Link.{run}
 use Rattle.rules.specs.Tables.{FunctionRecord, LineRecord}
 use Rattle.rules.specs.Rows.{record_slot, record_type, record_file, record_line, record_column, func_info_row, line_info_row}
@@ -16,7 +17,6 @@ use Rattle.rules.specs.Entries.{func_info_bytes, line_info_bytes}
 use Rattle.rules.proofs.Splices.{splice_more}
 use Rattle.rules.proofs.Linking.{length_run}
 use Rattle.rules.proofs.Rounds.{bytes4_at, from_part}
-use Rattle.merge.specs.Merge.{pair_bytes}
 
 -- ---- runs
 pub run_more : {A : Type 0} (f : ℕ → A) (from n : ℕ) → run f from (n + 1) ≡ run f from n ++ (f (from + n) ∷ [])
@@ -78,26 +78,26 @@ module _ {A : Type 0} (one : A → List ℕ) where
 
 -- ---- the two kinds
 unfoldable pub func_one : FunctionRecord → List ℕ
-func_one r = pair_bytes r.slot r.kind
+func_one r = numbers (r.slot ∷ r.kind ∷ [])
 
 unfoldable pub line_one : LineRecord → List ℕ
-line_one r = pair_bytes r.slot r.file ++ pair_bytes r.line r.column
+line_one r = numbers (r.slot ∷ r.file ∷ r.line ∷ r.column ∷ [])
 
 pub func_sized : (r : FunctionRecord) → length (func_one r) ≡ 8
-unfolding func_one pair_bytes
+unfolding func_one
 func_sized r = refl
 
 pub line_sized : (r : LineRecord) → length (line_one r) ≡ 16
-unfolding line_one pair_bytes
+unfolding line_one
 line_sized r = refl
 
 func_packed : (rs : List FunctionRecord) → func_info_bytes little rs ≡ packed func_one rs
-unfolding func_one pair_bytes
+unfolding func_one
 func_packed [] = refl
 func_packed (r ∷ rs) = ap (λ l. func_one r ++ l) (func_packed rs)
 
 line_packed : (rs : List LineRecord) → line_info_bytes little rs ≡ packed line_one rs
-unfolding line_one pair_bytes
+unfolding line_one
 line_packed [] = refl
 line_packed (r ∷ rs) = ap (λ l. line_one r ++ l) (line_packed rs)
 
@@ -119,8 +119,10 @@ module _ (t : List ℕ) (are : AreBytes t) where
       let e₃ : at + 3 ≡ suc (suc (suc at)) = omega arith in
       bytes4_at little t are at ∙ rw (e₁, e₂, e₃) (from_part little t are 4 at l)
 
+  abbrev pair_bytes : ℕ → ℕ → List ℕ
+  pair_bytes a b = bytes4 little a ++ bytes4 little b
+
   pair_part : (at at' : ℕ) → at' ≡ at + 4 → at + 8 ≤ length t → pair_bytes (u32_at little t at) (u32_at little t at') ≡ take 8 (drop at t)
-  unfolding pair_bytes
   pair_part at at' e l =
       ap (λ x. x ++ bytes4 little (u32_at little t at')) (number_part at (omega arith))
       ∙ ap (λ x. take 4 (drop at t) ++ x) (number_part at' (omega arith))
