@@ -6,15 +6,13 @@ ghost use Rattle.pieces.specs.InOrder.{piece_bytes, Lists, Puts};
 
 use rows::fields::function_slots;
 use rules::limits::{FUNCTION_SIZE, MOST_FUNCTIONS, PIECE_SIZE};
-use wire::put_u32;
+use wire::put_numbers;
 
 fn put_piece(out: &mut [u8], k: usize, row: u32, start: u32)
     requires { piece_size * k + piece_size ≤ length out.old }
     ensures { out.new ≡ splice out.old (piece_size * k) (piece_bytes row start) }
 {
-    let at = PIECE_SIZE * k;
-    put_u32(out, at, row);
-    put_u32(out, at + 4, start);
+    put_numbers(out, PIECE_SIZE * k, [row, start]);
 }
 
 // The first function that starts there.
