@@ -23,6 +23,8 @@ fn put_bytes<const N: usize>(out: &mut [u8], at: usize, bytes: [u8; N])
     out[at..at + N].copy_from_slice(&bytes);
 }
 
+// Bytes and place are lent side by side in what is public: docs/CLAIMS.md names these functions, so a type with an invariant may not ask for
+// the room in their place. Each width is a line over the two above.
 pub fn u16_at(s: &[u8], at: usize) -> u32
     requires { at + 2 ≤ length s.now }
     ensures { (result ≡ u16_at little s.now at) × (result < 0x1_0000) }
