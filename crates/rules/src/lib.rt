@@ -2,7 +2,7 @@
 #![tactic(auto)]
 
 ghost use Rattle.std.specs.Prelude.{◌≡◌, ◌≤◌};
-ghost use Rattle.rules.specs.Rows.{row_size, most_rows, table_number};
+ghost use Rattle.rules.specs.Rows.{row_size, most_rows, table_number, kind_of, kind_in};
 
 use crate::limits::{
     CODE_SIZE, FUNC_INFO_SIZE, FUNCTION_SIZE, INSTRUCTION_SIZE, LINE_INFO_SIZE, MAP_SIZE,
@@ -97,6 +97,27 @@ pub struct Image<'a> {
     pub slots: &'a mut [u8],
     pub func_info: &'a mut [u8],
     pub line_info: &'a mut [u8],
+}
+
+// What table 2 says of a symbol, by its number.
+#[derive(Clone, Copy, PartialEq, Eq)]
+pub enum SymbolKind {
+    Other = 0,
+    Text = 1,
+    Section = 2,
+}
+
+// A checked table has no number above 2.
+impl From<u8> for SymbolKind {
+    ghost from_gives = { λ n kind. kind_in kind ≡ kind_of n };
+
+    fn from(n: u8) -> SymbolKind {
+        match n {
+            0 => SymbolKind::Other,
+            1 => SymbolKind::Text,
+            _ => SymbolKind::Section,
+        }
+    }
 }
 
 // A count of slots: eight bytes each.
