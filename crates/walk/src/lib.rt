@@ -13,7 +13,7 @@ ghost use Rattle.walk.specs.Moves.{move_of, Ground, image_in, leads_in};
 ghost use Rattle.walk.specs.Steps.{arrived_at, frameless_at, Fitting, SteppedOver, RanOver, ImageWalked};
 
 use insn::kinds::{kind_of, table};
-use insn::{immediate, insn_is_call, offset, opcode};
+use insn::{immediate, insn_is_call, offset, opcode, slot_at};
 use rules::limits::{INSTRUCTION_SIZE, MOST_IMAGE_SLOTS};
 use rules::{Kind, Slot};
 
@@ -228,7 +228,7 @@ impl Ground for ImageGround<'_> {
     ghost blank = { pos 0 };
 
     fn look(&self, at: i64) -> Option<Move<i64>> {
-        let slot = Slot(slot_in(at, self.slots)? as u32);
+        let slot = slot_at(slot_in(at, self.slots)? as u32);
         Some(leads_at(self.kinds, self.image, slot, slot))
     }
 
