@@ -32,18 +32,6 @@ use Rattle.walk.specs.Moves.{leads_in}
 use Rattle.walk.proofs.Places.{slot_found, outside_test, Lies, lies}
 use Rattle.source.specs.Moves.{object_in, Slotted, slots_in, called_by}
 
--- a slot of a function is one of a row of table 3
-pub record Inside (functions : List ℕ) (row slot : ℕ) : Type 0 where
-  pub row_inside : row < whole_rows Functions functions
-  pub slot_inside : slot < function_slots functions row
-
-pub inside : (functions : List ℕ) (row slot : ℕ) → slot < slots_in functions row → Inside functions row slot
-inside functions row slot h = by (ltb row (whole_rows Functions functions)) refl h
-  where
-    by : (b : Bool) → ltb row (whole_rows Functions functions) ≡ b → slot < cond b (function_slots functions row) 0 → Inside functions row slot
-    by true e l = record { row_inside = ltb-true row (whole_rows Functions functions) e; slot_inside = l }
-    by false e l = absurd (omega arith)
-
 module _ (o : Offered) where
   abbrev functions : List ℕ
   functions = o.functions
