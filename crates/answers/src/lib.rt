@@ -12,16 +12,17 @@ use wire::put_places;
 pub fn refusal(cause: Cause, first: u32, second: u32) -> Refusal
     ensures { refused_reply result ≡ reply (number_of cause) first second 0 }
 {
-    let places = Places(first, second, 0);
-    Refusal { cause, places }
+    finding(cause, first, second, 0)
 }
 
 // A cause with all three.
 pub fn finding(cause: Cause, first: u32, second: u32, third: u32) -> Refusal
     ensures { refused_reply result ≡ reply (number_of cause) first second third }
 {
-    let places = Places(first, second, third);
-    Refusal { cause, places }
+    Refusal {
+        cause,
+        places: Places(first, second, third),
+    }
 }
 
 pub fn number_of(cause: Cause) -> u32
@@ -80,7 +81,7 @@ pub fn places(answer: Result<Places, Refusal>) -> Places
 pub fn tell(answer: Result<Places, Refusal>, out: &mut [u8]) -> u32
     ensures { Told out.old out.new result (reply_of answer) }
 {
-    let three = places(answer);
-    put_places(out, three.0, three.1, three.2);
+    let Places(a, b, c) = places(answer);
+    put_places(out, a, b, c);
     number(answer)
 }

@@ -10,7 +10,7 @@ use Prim.Native.Nat.{ℕ, ◌+◌, ◌≤◌, ◌<◌}
 use native.Mathlib.Omega.{arith}
 use native.Mathlib.Decide.{dec_lt}
 use Rattle.rules.specs.declared.Table.TheVariants.{Relocations}
-use Rattle.rules.specs.declared.Found.TheVariants.{At, Nothing}
+use Rattle.std.specs.Prelude.{Some, None}
 use Rattle.rules.specs.Rows.{whole_rows, first_from, relocation_section, relocation_offset}
 use Rattle.rules.specs.Tables.{Before}
 use Rattle.rules.specs.Lookups.{Sound, found_of, or_end, relocation_with, relocations_before}
@@ -56,13 +56,13 @@ module _ (t : List ℕ) (sound : Sound Relocations t) (home place : ℕ) where
     behind : Behind t home place cursor
     behind = subst (Behind t home place) (sym is) (behind_first t home place)
 
-    pub past_end : whole_rows Relocations t ≤ cursor → Nothing ≡ found_of (relocation_with t home place)
+    pub past_end : whole_rows Relocations t ≤ cursor → None ≡ found_of (relocation_with t home place)
     past_end l = sym (ap found_of (at_end t home place cursor behind l))
 
-    pub there : cursor < whole_rows Relocations t → relocation_matches t home place cursor ≡ true → At cursor ≡ found_of (relocation_with t home place)
+    pub there : cursor < whole_rows Relocations t → relocation_matches t home place cursor ≡ true → Some cursor ≡ found_of (relocation_with t home place)
     there l e = sym (ap found_of (at_row t home place cursor behind l e))
 
-    pub not_there : cursor < whole_rows Relocations t → relocation_matches t home place cursor ≡ false → Nothing ≡ found_of (relocation_with t home place)
+    pub not_there : cursor < whole_rows Relocations t → relocation_matches t home place cursor ≡ false → None ≡ found_of (relocation_with t home place)
     not_there l e = sym (ap found_of (at_later t home place cursor behind sound l (from_bound t sound home place cursor (omega arith) l) e))
 
 -- a later place has no fewer rows before it

@@ -100,10 +100,3 @@ module _ (order : Order) (table : Table) (info : Info) where
 
         slot_long : length slot ≡ 4
         slot_long = length_bytes4 order (u32_at order info.bytes (info.size * k) / 8)
-
-    -- the same with the loop's row size, places and number
-    pub turned : (room row from to k v : ℕ) (out once twice : List ℕ) → row ≡ row_size table → from ≡ info.size * k → to ≡ row * k
-        → v ≡ u32_at order info.bytes from / 8 → out ≡ padded room (rows_of_records order table info 0 k)
-        → once ≡ splice out to (bytes4 order v) → twice ≡ splice once (to + 4) (take (row - 4) (drop (from + 4) info.bytes))
-        → k < info.count → row * k + row ≤ room → twice ≡ padded room (rows_of_records order table info 0 (k + 1))
-    turned room row from to k v out once twice er ef et ev eo e₁ e₂ l h = rw (e₂, e₁, eo, ev, et, ef, er) (turn room k l (rw er at h))

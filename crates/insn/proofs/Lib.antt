@@ -1,4 +1,3 @@
-pub mod Sums
 pub mod Ends
 pub mod Words
 pub mod WideLoads

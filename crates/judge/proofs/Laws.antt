@@ -2,21 +2,19 @@
 -- Assumes nothing.
 use mathlib.Core.Path.{◌≡◌, refl, sym, ap, ◌∙◌}
 use mathlib.Core.Logic.{◌⊎◌, inl, inr, ⊎_elim}
-use mathlib.Core.Bool.{Bool, true, false, cond, ◌&&◌, ◌||◌}
+use mathlib.Core.Bool.{Bool, true, false, cond, ◌||◌}
 use mathlib.Core.Option.{Option, none, some}
 use mathlib.Core.List.{List}
-use Prim.Native.Nat.{ℕ, suc, ◌<◌}
-use native.Mathlib.Omega.{arith}
-use borrow.Author.Tests.{eq-eqb, ne_eqb, lt-ltb, le-ltb, leb-true, leb-false, ltb-true}
-use lib.Dec.{eqb, ltb, leb}
+use Prim.Native.Nat.{ℕ, ◌<◌}
+use borrow.Author.Tests.{eq-eqb, ne_eqb, ltb-true}
+use lib.Dec.{eqb}
 use lib.IntN.{ℤ, pos, negsuc, ◌+ℤ◌}
-use lib.Signed.{le_z}
 use mir.Syntax.{w32}
 use mir.Val.{SFits}
 use Rattle.rules.specs.declared.Cause.{Cause}
 use Rattle.rules.specs.declared.Cause.TheVariants.{UnknownSymbol, SectionNotFound, NotWideLoad, ValueOutside}
 use Rattle.rules.specs.declared.Refusal.{Refusal}
-use Rattle.rules.specs.declared.Found.TheVariants.{At}
+use Rattle.std.specs.Prelude.{Ok, Err, Some, None}
 use Rattle.rules.specs.declared.Table.TheVariants.{Maps}
 use Rattle.rules.specs.Bytes.{half32}
 use Rattle.rules.specs.Answers.{Reply, reply, number_of, refused_reply}
@@ -27,31 +25,21 @@ use Rattle.rules.specs.Rows.{none_number, other_kind, text_kind, with_data, whol
 use Rattle.rules.specs.Lookups.{found_of, is_code_section, symbol_with, map_with_symbol, map_of_section, read_row}
 use Rattle.rows.proofs.Laws.{map_symbol_found, map_section_found}
 use Rattle.judge.specs.declared.Site.{Site}
-use Rattle.judge.specs.declared.Verdict.{Verdict}
-use Rattle.judge.specs.declared.Verdict.TheVariants.{Skipped, Refused, Plain, Valued}
-use Rattle.judge.specs.Verdicts.{refused_for, map_found, data_verdict, map_verdict, home_verdict, row_verdict, found_verdict, symbol_verdict, Says}
-
-below_next : (n m : ℕ) → leb n m ≡ ltb n (suc m)
-below_next n m = go (leb n m) refl
-  where
-    go : (b : Bool) → leb n m ≡ b → b ≡ ltb n (suc m)
-    go true e = sym (lt-ltb n (suc m) (omega (arith, leb-true n m e)))
-    go false e = sym (le-ltb n (suc m) (omega (arith, leb-false n m e)))
-
-and_true : (b : Bool) → (b && true) ≡ b
-and_true true = refl
-and_true false = refl
-
-pub between_limits : (z : ℤ) → (le_z (negsuc 0x7FFF_FFFF) z && le_z z (pos 0x7FFF_FFFF)) ≡ fits32 z
-between_limits (pos n) = below_next n 0x7FFF_FFFF
-between_limits (negsuc n) = and_true (leb n 0x7FFF_FFFF) ∙ below_next n 0x7FFF_FFFF
+use Rattle.judge.specs.Verdicts.{Verdict, refused_for, map_found, data_verdict, map_verdict, home_verdict, row_verdict, found_verdict, symbol_verdict, Says}
 
 pub inside_fits : (z : ℤ) → fits32 z ≡ true → SFits w32 z
 inside_fits (pos n) e = record { sfits = ltb-true n half32 e }
 inside_fits (negsuc n) e = record { sfits = ltb-true n half32 e }
 
+pub outside_fits : (z : ℤ) → (SFits w32 z → ⊥) → fits32 z ≡ false
+outside_fits z n = go (fits32 z) refl
+  where
+    go : (b : Bool) → fits32 z ≡ b → b ≡ false
+    go true e = absurd (n (inside_fits z e))
+    go false e = refl
+
 -- ---- a refusal, at the site
-pub refused_says : (cause : Cause) (site : Site) (r : Refusal) → refused_reply r ≡ reply (number_of cause) site.row site.slot.0 0 → Says site (refused_for cause) (Refused r)
+pub refused_says : (cause : Cause) (site : Site) (r : Refusal) → refused_reply r ≡ reply (number_of cause) site.row site.slot.0 0 → Says site (refused_for cause) (Err r)
 refused_says cause site r e = record { says = λ tables. ap (λ (x : Reply). step.refused x.number) e; places = ap (λ (x : Reply). x.places) e }
 
 -- ---- a verdict that is the same in other words
@@ -60,7 +48,7 @@ says_same site v w e r s = record { says = λ tables. s.says tables ∙ e tables
 
 -- ---- "with data, 7"
 module _ (maps : List ℕ) (m address : ℕ) (site : Site) where
-  pub plain_says : (fd : ℤ) → fd ≡ map_fd maps m → (map_has_data maps m ≡ with_data → ⊥) → Says site (data_verdict maps m address site) (Plain site.here fd)
+  pub plain_says : (fd : ℤ) → fd ≡ map_fd maps m → (map_has_data maps m ≡ with_data → ⊥) → Says site (data_verdict maps m address site) (Ok (Some (record { here = site.here; fd = fd; value = None })))
   plain_says fd e n = record { says = λ tables. rw (e, ne_eqb (map_has_data maps m) with_data n); places = (refl, tt) }
 
   module _ (with-data : map_has_data maps m ≡ with_data) where
@@ -68,11 +56,11 @@ module _ (maps : List ℕ) (m address : ℕ) (site : Site) where
     outside_says e = says_same site _ _ (λ tables. rw (eq-eqb (map_has_data maps m) with_data with-data, e))
 
     pub valued_says : (fd value : ℤ) → fd ≡ map_fd maps m → value ≡ site.imm +ℤ pos address → fits32 (site.imm +ℤ pos address) ≡ true → site.wide ≡ true
-        → Says site (data_verdict maps m address site) (Valued site.here fd value)
+        → Says site (data_verdict maps m address site) (Ok (Some (record { here = site.here; fd = fd; value = Some value })))
     valued_says fd value e v f w = record { says = λ tables. rw (e, v, eq-eqb (map_has_data maps m) with_data with-data, f); places = (refl, w) }
 
 -- ---- rows found are rows
-some_found : (a b : Option ℕ) (k : ℕ) → or_else a b ≡ some k → (found_of a ≡ At k) ⊎ (found_of b ≡ At k)
+some_found : (a b : Option ℕ) (k : ℕ) → or_else a b ≡ some k → (found_of a ≡ Some k) ⊎ (found_of b ≡ Some k)
 some_found none b k e = inr (ap found_of e)
 some_found (some j) b k e = inl (ap found_of e)
 
@@ -111,7 +99,7 @@ is_text : (n : ℕ) → n ≡ text_kind → kind_of n ≡ text
 is_text n e = ap kind_of e
 
 module _ (code symbols maps : List ℕ) (s symbol : ℕ) (site : Site) where
-  pub no_section_says : symbol_section symbols s ≡ none_number → Says site (row_verdict code symbols maps s symbol site) Skipped
+  pub no_section_says : symbol_section symbols s ≡ none_number → Says site (row_verdict code symbols maps s symbol site) (Ok None)
   no_section_says e = record { says = λ tables. rw (eq-eqb (symbol_section symbols s) none_number e); places = tt }
 
   -- the symbol has a section
@@ -126,12 +114,12 @@ module _ (code symbols maps : List ℕ) (s symbol : ℕ) (site : Site) where
         ap (home_verdict code symbols maps s symbol site tables) section_is
         ∙ ap (λ b. cond b step.skipped (by_kind tables (kind_of (symbol_kind symbols s)) (read_row (map_row maps) (map_found maps symbol home)) site.wide (site.imm +ℤ pos (symbol_address symbols s)))) e
 
-    pub call_says : site.call ≡ true → Says site (row_verdict code symbols maps s symbol site) Skipped
+    pub call_says : site.call ≡ true → Says site (row_verdict code symbols maps s symbol site) (Ok None)
     call_says e = record { says = λ tables. sym (by_section tables true (ap (λ b. b || is_code_section code home) e)); places = tt }
 
     -- not a call
     module _ (no_call : site.call ≡ false) where
-      pub code_says : is_code_section code home ≡ true → Says site (row_verdict code symbols maps s symbol site) Skipped
+      pub code_says : is_code_section code home ≡ true → Says site (row_verdict code symbols maps s symbol site) (Ok None)
       code_says e = record { says = λ tables. sym (by_section tables true (ap (λ b. b || is_code_section code home) no_call ∙ e)); places = tt }
 
       -- nor code

@@ -10,6 +10,9 @@ use borrow.Author.Tests.{eq-eqb, ne_eqb, lt-ltb, le-ltb, le-leb, lt-leb, ltb-tru
 use lib.Dec.{eqb, ltb}
 use lib.IntN.{ℤ, pos, ◌+ℤ◌}
 use lib.ListN.{length}
+use Rattle.std.proofs.Common.{nat_cmp, is_lt, is_ge}
+use Rattle.std.specs.Prelude as prelude
+use Rattle.std.specs.Prelude.{Ok, Err, Some, None}
 use Rattle.rules.specs.declared.Table.TheVariants.{Functions}
 use Rattle.rules.specs.declared.Cause.TheVariants.{InvalidRelocationOffset}
 use Rattle.rules.specs.declared.Refusal.{Refusal}
@@ -28,12 +31,22 @@ use Rattle.rules.proofs.Reading.{row_is, base_is, code_is, symbol_is, map_is}
 use Rattle.rules.proofs.Writing.{decoded_at}
 use Rattle.insn.specs.Wide.{wide_load_in}
 use Rattle.judge.specs.declared.Site.{Site}
-use Rattle.judge.specs.declared.Verdict.{Verdict}
-use Rattle.judge.specs.declared.Verdict.TheVariants.{Skipped, Refused, Plain, Valued}
-use Rattle.judge.specs.Verdicts.{PlacedAt, map_found, home_verdict, found_verdict, symbol_verdict, Says, SiteAt}
+use Rattle.judge.specs.Verdicts.{Verdict, RoomFor, PlacedAt, map_found, home_verdict, found_verdict, symbol_verdict, Says, SiteAt}
 use Rattle.judge.specs.Judged.{tables, slots_of, task_of, slot_of, Asked, Inside, Judges}
 
 -- ---- tests
+pub less : (a b : ℕ) → is_lt (nat_cmp a b) ≡ true → a < b
+less a b e = grind (arith, e)
+
+pub not_less : (a b : ℕ) → is_lt (nat_cmp a b) ≡ false → b ≤ a
+not_less a b e = grind (arith, e)
+
+pub at_least : (a b : ℕ) → is_ge (nat_cmp a b) ≡ true → b ≤ a
+at_least a b e = grind (arith, e)
+
+pub not_at_least : (a b : ℕ) → is_ge (nat_cmp a b) ≡ false → a < b
+not_at_least a b e = grind (arith, e)
+
 and_false : (a b c : Bool) → ((a && false) && b) ≡ ((a && false) && c)
 and_false true b c = refl
 and_false false b c = refl
@@ -138,7 +151,7 @@ module _ {o : Offered} {row first k : ℕ} (asked : Asked o row first k) where
       ap (λ f. judged f (base (tables o) row)) (row_is little o row asked.of_row.row_inside)
       ∙ ap (judged (function_row o.functions row)) base_first
 
-  pub before_judges : relocation_offset o.relocations k < function_offset o.functions row → Judges o row first k Skipped
+  pub before_judges : relocation_offset o.relocations k < function_offset o.functions row → Judges o row first k (Ok None)
   unfolding judged
   before_judges h = record {
     says = sym (judge_is ∙ rw (lt-leb (function_offset o.functions row) (relocation_offset o.relocations k) h));
@@ -146,7 +159,7 @@ module _ {o : Offered} {row first k : ℕ} (asked : Asked o row first k) where
   }
 
   module _ (from : function_offset o.functions row ≤ relocation_offset o.relocations k) where
-    pub past_judges : function_offset o.functions row + 8 * function_slots o.functions row ≤ relocation_offset o.relocations k → Judges o row first k Skipped
+    pub past_judges : function_offset o.functions row + 8 * function_slots o.functions row ≤ relocation_offset o.relocations k → Judges o row first k (Ok None)
     unfolding judged
     past_judges h = record {
       says = sym (judge_is ∙ rw (
@@ -158,7 +171,7 @@ module _ {o : Offered} {row first k : ℕ} (asked : Asked o row first k) where
 
     module _ (to : relocation_offset o.relocations k < function_offset o.functions row + 8 * function_slots o.functions row) where
       pub off_judges : ((relocation_offset o.relocations k - function_offset o.functions row) % 8 ≡ 0 → ⊥) → (r : Refusal) → refused_reply r ≡ reply (number_of InvalidRelocationOffset) row (slot_of o row k) 0
-          → Judges o row first k (Refused r)
+          → Judges o row first k (Err r)
       unfolding judged
       off_judges n r e = record {
         says = ap (λ (x : Reply). step.refused x.number) e ∙ sym (judge_is ∙ rw (
@@ -196,15 +209,19 @@ module _ {o : Offered} {row first k : ℕ} (asked : Asked o row first k) where
             ∙ ap (by_symbol (tables o) (symbol_of (tables o) (relocation_row o.relocations k)) (relocation_symbol o.relocations k) (slot_at (slots_of o) (first + slot_of o row k)))
             (at.wide_is ∙ sym (wide_slot o.instructions first (slot_of o row k) (function_slots o.functions row) slot_low in_table)))
 
+        room : (value : prelude.Option ℤ) → RoomFor (Unit {0}) (site.wide ≡ true) value
+            → RoomFor (Inside o.instructions (first + slot_of o row k)) (Inside o.instructions (suc (first + slot_of o row k))) value
+        room None wide = omega (arith, slot_low, in_table)
+        room (Some value) wide =
+            let next : suc (first + slot_of o row k) < first + function_slots o.functions row =
+            wide_next o.instructions (first + slot_of o row k) (first + function_slots o.functions row) (sym at.wide_is ∙ wide) in
+            omega (arith, in_table)
+
         placed : (r : Verdict) → PlacedAt site.row site.slot.0 site.here.0 (Unit {0}) (site.wide ≡ true) r
             → PlacedAt row (slot_of o row k) (first + slot_of o row k) (Inside o.instructions (first + slot_of o row k)) (Inside o.instructions (suc (first + slot_of o row k))) r
-        placed Skipped p = tt
-        placed (Refused a) p = p ∙ ap (λ n. n ∷ site.slot.0 ∷ 0 ∷ []) at.row_is ∙ ap (λ n. row ∷ n ∷ 0 ∷ []) at.slot_is
-        placed (Plain here fd) p = (p.0 ∙ at.here_is, omega (arith, slot_low, in_table))
-        placed (Valued here fd value) p =
-            let next : suc (first + slot_of o row k) < first + function_slots o.functions row =
-            wide_next o.instructions (first + slot_of o row k) (first + function_slots o.functions row) (sym at.wide_is ∙ p.1) in
-            (p.0 ∙ at.here_is, omega (arith, in_table))
+        placed (Ok None) p = tt
+        placed (Err a) p = p ∙ ap (λ n. n ∷ site.slot.0 ∷ 0 ∷ []) at.row_is ∙ ap (λ n. row ∷ n ∷ 0 ∷ []) at.slot_is
+        placed (Ok (Some c)) p = (p.0 ∙ at.here_is, room c.value p.1)
 
         pub site_judges : (r : Verdict) → Says site (symbol_verdict o.code o.symbols o.maps (relocation_symbol o.relocations k) site) r → Judges o row first k r
         site_judges r s = record { says = s.says (tables o) ∙ by_site ∙ sym judge_is; places = placed r s.places }

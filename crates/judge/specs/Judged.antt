@@ -9,8 +9,7 @@ use Rattle.rules.specs.Maps as step
 use Rattle.rules.specs.Maps.{Task, task}
 use Rattle.rules.specs.Rows.{whole_rows, summed, Offered, tables_of, function_slots, function_offset, relocation_offset, relocation_row}
 use Rattle.rules.specs.Lookups.{MapChecked}
-use Rattle.judge.specs.declared.Verdict.{Verdict}
-use Rattle.judge.specs.Verdicts.{verdict_of, PlacedAt}
+use Rattle.judge.specs.Verdicts.{Verdict, verdict_of, PlacedAt}
 
 -- the same tables with other bytes as table 6
 abbrev pub with_instructions : Offered → List ℕ → Offered

@@ -1,12 +1,14 @@
 -- What the code says of a relocation as a verdict of the map step, and that verdict by rows of the tables' bytes.
 -- Assumes nothing.
-use Rattle.std.specs.Prelude.{◌≡◌, true, cond, ◌||◌, List, [], ◌∷◌, ℕ, ◌+◌, ◌*◌, ◌≤◌, ◌<◌, ◌^◌, pos, ◌+ℤ◌, eqb, length}
+use Rattle.std.specs.Prelude.{◌≡◌, true, cond, ◌||◌, List, [], ◌∷◌, ℕ, ◌+◌, ◌*◌, ◌≤◌, ◌<◌, ◌^◌, pos, ℤ, ◌+ℤ◌, eqb, length}
+use Rattle.std.specs.Prelude as prelude
 use Rattle.std.proofs.Math.Option.{Option, none, some}
 use Rattle.rules.specs.declared.Table.TheVariants.{Code, Symbols, Maps}
 use Rattle.rules.specs.Object.{is_call}
 use Rattle.rules.specs.Bytes.{little, slot_in, slot_size}
 use Rattle.rules.specs.declared.Cause.{Cause}
 use Rattle.rules.specs.declared.Cause.TheVariants.{UnknownSymbol}
+use Rattle.rules.specs.declared.Refusal.{Refusal}
 use Rattle.rules.specs.Answers.{number_of, refused_reply}
 use Rattle.rules.specs.Tables.{Tables}
 use Rattle.rules.specs.Maps as step
@@ -15,21 +17,31 @@ use Rattle.rules.specs.Rows.{row_size, with_data, or_none, kind_of, symbol_secti
 use Rattle.rules.specs.Lookups.{Sound, is_code_section, symbol_with, map_with_symbol, map_of_section, read_row}
 use Rattle.insn.specs.Wide.{wide_load_in}
 use Rattle.judge.specs.declared.Site.{Site}
-use Rattle.judge.specs.declared.Verdict.{Verdict}
-use Rattle.judge.specs.declared.Verdict.TheVariants.{Skipped, Refused, Plain, Valued}
+use Rattle.judge.specs.declared.Change.{Change}
+
+-- what the code answers
+abbrev pub Verdict : Type 0
+Verdict = prelude.Result (prelude.Option Change) Refusal
+
+-- the next slot's immediate
+abbrev pub value_of : prelude.Option ℤ → Option ℤ
+value_of prelude.None = none
+value_of (prelude.Some value) = some value
 
 abbrev pub verdict_of : Verdict → step.Verdict
-verdict_of Skipped = step.skipped
-verdict_of (Refused a) = step.refused (refused_reply a).number
-verdict_of (Plain here fd) = step.applies (change fd none)
-verdict_of (Valued here fd value) = step.applies (change fd (some value))
+verdict_of (prelude.Ok prelude.None) = step.skipped
+verdict_of (prelude.Ok (prelude.Some c)) = step.applies (change c.fd (value_of c.value))
+verdict_of (prelude.Err a) = step.refused (refused_reply a).number
 
 -- a refusal's places; and the slot that is to be rewritten, where the next must be one of the function's too
+abbrev pub RoomFor : Type 0 → Type 0 → prelude.Option ℤ → Type 0
+RoomFor inside next prelude.None = inside
+RoomFor inside next (prelude.Some value) = next
+
 abbrev pub PlacedAt : ℕ → ℕ → ℕ → Type 0 → Type 0 → Verdict → Type 0
-PlacedAt row slot here inside next Skipped = Unit {0}
-PlacedAt row slot here inside next (Refused a) = (refused_reply a).places ≡ (row ∷ slot ∷ 0 ∷ [])
-PlacedAt row slot here inside next (Plain at fd) = (at.0 ≡ here) × inside
-PlacedAt row slot here inside next (Valued at fd value) = (at.0 ≡ here) × next
+PlacedAt row slot here inside next (prelude.Ok prelude.None) = Unit {0}
+PlacedAt row slot here inside next (prelude.Ok (prelude.Some c)) = (c.here.0 ≡ here) × RoomFor inside next c.value
+PlacedAt row slot here inside next (prelude.Err a) = (refused_reply a).places ≡ (row ∷ slot ∷ 0 ∷ [])
 
 -- ---- by rows. The tables are not looked at
 abbrev pub refused_for : Cause → Tables → step.Verdict

@@ -5,8 +5,7 @@ ghost use Rattle.std.specs.Prelude.{◌≡◌, ◌<◌, ◌^◌};
 ghost use Rattle.rules.specs.declared.Table.TheVariants.{Symbols, Maps};
 ghost use Rattle.rules.specs.Rows.{whole_rows};
 ghost use Rattle.rules.specs.Lookups.{Sound, found_of};
-ghost use Rattle.rules.specs.Maps.{fits32};
-ghost use Rattle.rules.specs.Lent.{offered_maps, lent_maps};
+ghost use Rattle.rules.specs.Lent.{lent_maps};
 ghost use Rattle.judge.specs.Verdicts.{map_found, data_verdict, map_verdict, row_verdict, symbol_verdict, refused_for};
 ghost use Rattle.judge.specs.Verdicts.{Says, SiteAt, SiteAsked, DataAsked, Tabled};
 ghost use Rattle.judge.specs.Judged.{Asked, Judges};
@@ -21,20 +20,15 @@ use rows::fields::{
 };
 use rows::find::{find_map_section, find_map_symbol, find_symbol, is_code};
 use rules::limits::{HAS_DATA, NONE, TEXT};
-use rules::{ByteOffset, Cause, Found, Refusal, Slot};
+use rules::{ByteOffset, Cause, Names, Refusal, Slot};
 
-const LEAST: i64 = -0x8000_0000;
-
-const MOST: i64 = 0x7FFF_FFFF;
-
+// How a slot is to be rewritten.
 #[derive(Clone, Copy)]
-pub enum Verdict {
-    Skipped,
-    Refused(Refusal),
-    // no data: the slot, fd
-    Plain(Slot, i32),
-    // with data: the slot, fd, the next slot's immediate
-    Valued(Slot, i32, i32),
+pub struct Change {
+    pub here: Slot,
+    pub fd: i32,
+    // with data: the next slot's immediate
+    pub value: Option<i32>,
 }
 
 // What is read of a relocation's slot: where it stands, in its function and in table 6, and what it holds.
@@ -48,145 +42,149 @@ pub struct Site {
     pub wide: bool,
 }
 
-fn refused(cause: Cause, site: Site) -> Verdict
-    ensures { Says site (refused_for cause) result }
-{
-    let at = site.slot;
-    Verdict::Refused(refusal(cause, site.row, at.0))
+impl Site {
+    // The slot of a function of `slots` slots, the first of them at `first` in table 6.
+    fn read(instructions: &[u8], row: u32, slot: Slot, first: Slot, slots: Slot) -> Site
+        requires { SiteAsked instructions.now slot.0 first.0 slots.0 }
+        ensures { SiteAt instructions.now row slot.0 first.0 slots.0 result }
+    {
+        let here = after(first, slot);
+        let end = after(first, slots);
+        let imm = immediate(instructions, here);
+        let call = insn_is_call(instructions, here);
+        let wide = is_wide_load(instructions, here, end);
+        Site {
+            row,
+            slot,
+            here,
+            imm,
+            call,
+            wide,
+        }
+    }
+
+    fn refused(self, cause: Cause) -> Result<Option<Change>, Refusal>
+        ensures { Says self (refused_for cause) result }
+    {
+        Err(refusal(cause, self.row, self.slot.0))
+    }
 }
 
-fn fits(sum: i64) -> bool
-    ensures { result ≡ fits32 sum }
-{
-    (LEAST <= sum) & (sum <= MOST)
-}
-
-fn find_map(maps: &[u8], symbol: u32, home: u32) -> Found
+fn find_map(maps: &[u8], symbol: u32, home: u32) -> Option<usize>
     requires { Sound Maps maps.now }
     ensures { result ≡ found_of (map_found maps.now symbol home) }
 {
-    let found = find_map_symbol(maps, symbol);
-    match found {
-        Found::At(m) => Found::At(m),
-        Found::Nothing => find_map_section(maps, home),
-    }
+    find_map_symbol(maps, symbol).or_else(|| find_map_section(maps, home))
 }
 
-fn by_data(maps: &[u8], m: usize, address: ByteOffset, site: Site) -> Verdict
+fn by_data(
+    maps: &[u8],
+    m: usize,
+    address: ByteOffset,
+    site: Site,
+) -> Result<Option<Change>, Refusal>
     requires { DataAsked maps.now m address.0 site }
     ensures { Says site (data_verdict maps.now m address.0 site) result }
 {
-    let fd = map_fd(maps, m);
     let here = site.here;
+    let fd = map_fd(maps, m);
     if map_has_data(maps, m) != HAS_DATA {
-        return Verdict::Plain(here, fd);
+        let value = None;
+        return Ok(Some(Change { here, fd, value }));
     }
-    let imm = site.imm;
-    let sum = value(imm, address);
-    if !fits(sum) {
-        return refused(Cause::ValueOutside, site);
-    }
-    let next = sum as i32;
-    Verdict::Valued(here, fd, next)
+    let sum = value(site.imm, address);
+    let Ok(next) = i32::try_from(sum) else {
+        return site.refused(Cause::ValueOutside);
+    };
+    let value = Some(next);
+    Ok(Some(Change { here, fd, value }))
 }
 
-fn by_map(maps: &[u8], symbol: u32, home: u32, address: ByteOffset, site: Site) -> Verdict
+fn by_map(
+    maps: &[u8],
+    symbol: u32,
+    home: u32,
+    address: ByteOffset,
+    site: Site,
+) -> Result<Option<Change>, Refusal>
     requires { Sound Maps maps.now × (address.0 < 2 ^ 48) }
     ensures { Says site (map_verdict maps.now symbol home address.0 site) result }
 {
-    let Found::At(m) = find_map(maps, symbol, home) else {
-        return refused(Cause::SectionNotFound, site);
+    let Some(m) = find_map(maps, symbol, home) else {
+        return site.refused(Cause::SectionNotFound);
     };
     if !site.wide {
-        return refused(Cause::NotWideLoad, site);
+        return site.refused(Cause::NotWideLoad);
     }
     by_data(maps, m, address, site)
 }
 
 // By the row of the symbol in table 2.
-fn by_row(code: &[u8], symbols: &[u8], maps: &[u8], s: usize, symbol: u32, site: Site) -> Verdict
-    requires { Tabled code.now symbols.now maps.now × (s < whole_rows Symbols symbols.now) }
-    ensures { Says site (row_verdict code.now symbols.now maps.now s symbol site) result }
+fn by_row(
+    names: Names,
+    maps: &[u8],
+    s: usize,
+    symbol: u32,
+    site: Site,
+) -> Result<Option<Change>, Refusal>
+    requires { Tabled names.code.now names.symbols.now maps.now × (s < whole_rows Symbols names.symbols.now) }
+    ensures { Says site (row_verdict names.entry.code.now names.entry.symbols.now maps.now s symbol site) result }
 {
-    let home = symbol_section(symbols, s);
+    let home = symbol_section(names.symbols, s);
     if home == NONE {
-        return Verdict::Skipped;
+        return Ok(None);
     }
     if site.call {
-        return Verdict::Skipped;
+        return Ok(None);
     }
-    if is_code(code, home) {
-        return Verdict::Skipped;
+    if is_code(names.code, home) {
+        return Ok(None);
     }
-    if symbol_kind(symbols, s) == TEXT {
-        return refused(Cause::SectionNotFound, site);
+    if symbol_kind(names.symbols, s) == TEXT {
+        return site.refused(Cause::SectionNotFound);
     }
-    let address = symbol_address(symbols, s);
+    let address = symbol_address(names.symbols, s);
     by_map(maps, symbol, home, address, site)
 }
 
-fn by_symbol(code: &[u8], symbols: &[u8], maps: &[u8], symbol: u32, site: Site) -> Verdict
-    requires { Tabled code.now symbols.now maps.now }
-    ensures { Says site (symbol_verdict code.now symbols.now maps.now symbol site) result }
+fn by_symbol(names: Names, maps: &[u8], symbol: u32, site: Site) -> Result<Option<Change>, Refusal>
+    requires { Tabled names.code.now names.symbols.now maps.now }
+    ensures { Says site (symbol_verdict names.entry.code.now names.entry.symbols.now maps.now symbol site) result }
 {
-    let Found::At(s) = find_symbol(symbols, symbol) else {
-        return refused(Cause::UnknownSymbol, site);
+    let Some(s) = find_symbol(names.symbols, symbol) else {
+        return site.refused(Cause::UnknownSymbol);
     };
-    by_row(code, symbols, maps, s, symbol, site)
+    by_row(names, maps, s, symbol, site)
 }
 
-// The slot of a function of `slots` slots, the first of them at `first` in table 6.
-fn read_site(instructions: &[u8], row: u32, slot: Slot, first: Slot, slots: Slot) -> Site
-    requires { SiteAsked instructions.now slot.0 first.0 slots.0 }
-    ensures { SiteAt instructions.now row slot.0 first.0 slots.0 result }
-{
-    let here = after(first, slot);
-    let end = after(first, slots);
-    let imm = immediate(instructions, here);
-    let call = insn_is_call(instructions, here);
-    let wide = is_wide_load(instructions, here, end);
-    Site {
-        row,
-        slot,
-        here,
-        imm,
-        call,
-        wide,
-    }
-}
-
-// The row k of table 4 in the function `row`, whose first slot in table 6 is `first`.
+// The row k of table 4 in the function `row`, whose first slot in table 6 is `first`. None where the relocation is not for the map step.
 pub fn judge(
-    code: &[u8],
-    symbols: &[u8],
-    functions: &[u8],
-    relocations: &[u8],
+    names: Names,
     maps: &[u8],
     instructions: &[u8],
     row: usize,
     first: Slot,
     k: usize,
-) -> Verdict
-    requires { Asked (offered_maps code.now symbols.now functions.now relocations.now maps.now instructions.now) row first.0 k }
-    ensures { Judges (lent_maps code.now symbols.now functions.now relocations.now maps.now instructions.now) row first.0 k result }
+) -> Result<Option<Change>, Refusal>
+    requires { Asked (lent_maps names maps.now instructions.now) row first.0 k }
+    ensures { Judges (lent_maps names.entry maps.now instructions.now) row first.0 k result }
 {
-    let offset = relocation_offset(relocations, k);
-    let start = function_offset(functions, row);
-    let slots = function_slots(functions, row);
-    if offset.0 < start.0 {
-        return Verdict::Skipped;
+    let offset = relocation_offset(names.relocations, k);
+    let start = function_offset(names.functions, row);
+    let slots = function_slots(names.functions, row);
+    if offset < start {
+        return Ok(None);
     }
     let at = offset_at(offset.0 - start.0);
-    let size = to_offset(slots);
-    if at.0 >= size.0 {
-        return Verdict::Skipped;
+    if at >= to_offset(slots) {
+        return Ok(None);
     }
     let slot = to_slot(at);
     let function = row as u32;
     if !is_on_grid(at) {
-        return Verdict::Refused(refusal(Cause::InvalidRelocationOffset, function, slot.0));
+        return Err(refusal(Cause::InvalidRelocationOffset, function, slot.0));
     }
-    let site = read_site(instructions, function, slot, first, slots);
-    let symbol = relocation_symbol(relocations, k);
-    by_symbol(code, symbols, maps, symbol, site)
+    let site = Site::read(instructions, function, slot, first, slots);
+    let symbol = relocation_symbol(names.relocations, k);
+    by_symbol(names, maps, symbol, site)
 }

@@ -20,9 +20,8 @@ use Rattle.rules.specs.Lookups.{MapChecked}
 use Rattle.rules.proofs.Searches.{summed_step, summed_bound, part_inside}
 use Rattle.rules.proofs.Passed.{and_left, few_rows, good_function}
 use Rattle.rules.proofs.Reading.{row_is, base_is}
-use Rattle.judge.specs.declared.Verdict.{Verdict}
-use Rattle.judge.specs.declared.Verdict.TheVariants.{Skipped, Refused, Plain, Valued}
-use Rattle.judge.specs.Verdicts.{verdict_of}
+use Rattle.std.specs.Prelude.{Ok, Err, Some, None}
+use Rattle.judge.specs.Verdicts.{Verdict, verdict_of}
 use Rattle.judge.specs.Judged.{tables, slots_of, task_of, slot_of, RowAsked, Asked, Judges}
 use Rattle.maps.specs.Passes.{verdict_refusal, replied, is_within, end_of, first_row, row_refusal, step_refusal}
 use Rattle.maps.proofs.Tasks.{refusal_joined, tasks_left, none_left, from_first, within_next, scan_end, rows_left, all_rows, rows_next, rows_end}
@@ -46,18 +45,16 @@ module _ {o : Offered} {row first k : ℕ} (asked : Asked o row first k) where
 
   said_refusal : (v : Verdict) → Judges o row first k v → (later : Option Refusal)
       → replied (refusal_by (tables o) (verdict_of v) (task_of o row k) later) ≡ or_else (verdict_refusal v) (replied later)
-  said_refusal Skipped j later = refl
-  said_refusal (Refused r) j later =
+  said_refusal (Ok None) j later = refl
+  said_refusal (Err r) j later =
       ap (λ n. some (reply (refused_reply r).number row n 0)) slot_is ∙ ap (λ p. some (record { number = (refused_reply r).number; places = p })) (sym j.places)
-  said_refusal (Plain here fd) j later = refl
-  said_refusal (Valued here fd value) j later = refl
+  said_refusal (Ok (Some c)) j later = refl
 
 -- ---- small steps
 passed : (t : Tables) (x : Task) (v : Verdict) → verdict_refusal v ≡ none → (later : Option Refusal) → refusal_by t (verdict_of v) x later ≡ later
-passed t x Skipped e later = refl
-passed t x (Refused r) e later = let z : ◌≡◌ {A = ℕ} 0 1 = cc in absurd (omega arith)
-passed t x (Plain here fd) e later = refl
-passed t x (Valued here fd value) e later = refl
+passed t x (Ok None) e later = refl
+passed t x (Err r) e later = let z : ◌≡◌ {A = ℕ} 0 1 = cc in absurd (omega arith)
+passed t x (Ok (Some c)) e later = refl
 
 pub none_replied : (x : Option Refusal) → replied x ≡ none → x ≡ none
 none_replied none e = refl

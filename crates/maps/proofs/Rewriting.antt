@@ -1,9 +1,9 @@
 -- The second pass, row by row and function by function: what is left to rewrite from here gives what was asked for.
 -- Assumes nothing.
-use mathlib.Core.Path.{◌≡◌, refl, sym, ap, ◌∙◌}
+use mathlib.Core.Path.{◌≡◌, refl, sym, ap, ◌∙◌, subst}
 use mathlib.Core.Option.{Option, none, some}
 use mathlib.Core.List.{List, []}
-use Prim.Native.Nat.{ℕ, suc, ◌+◌, ◌*◌, ◌≤◌, ◌<◌}
+use Prim.Native.Nat.{ℕ, suc, ◌+◌, ◌*◌, ◌≤◌, ◌<◌, ◌^◌}
 use native.Mathlib.Numerals.{add-one}
 use native.Mathlib.Omega.{arith}
 use lib.IntN.{ℤ}
@@ -11,7 +11,6 @@ use lib.ListN.{length}
 use mir.Syntax.{w32}
 use mir.Val.{to_z, of_z, SFits}
 use mir.ValLaws.{to_z-of_z}
-use Rattle.rules.specs.declared.Refusal.{Refusal}
 use Rattle.rules.specs.declared.Table.TheVariants.{Functions, Relocations}
 use Rattle.rules.specs.Bytes.{little, slot_size, decoded, immediate_stored, source_stored}
 use Rattle.rules.specs.Maps as step
@@ -24,9 +23,11 @@ use Rattle.rules.proofs.Machine.{sfits32}
 use Rattle.rules.proofs.InPlace.{rewrite_in_place, applied_in_place}
 use Rattle.rules.proofs.MapsBytes.{changed_stored, value_stored}
 use Rattle.rules.proofs.Writing.{bytes_kept, source_kept}
-use Rattle.judge.specs.declared.Verdict.TheVariants.{Skipped, Refused, Plain, Valued}
+use Rattle.std.specs.Prelude.{Ok, Err, Some, None}
+use Rattle.judge.specs.declared.Change.{Change}
+use Rattle.judge.specs.Verdicts.{Verdict, value_of, RoomFor}
 use Rattle.judge.specs.Judged.{with_instructions, tables, slots_of, task_of, slot_of, RowAsked, Asked, Inside, Judges}
-use Rattle.maps.specs.Passes.{first_row, Changed, OneRewritten, RowRewritten, AllRewritten}
+use Rattle.maps.specs.Passes.{first_row, ChangesInside, Changed, OneRewritten, RowRewritten, AllRewritten}
 use Rattle.maps.proofs.Tasks.{rewrite_joined, count_joined, tasks_left, none_left, from_first, within_next, scan_end, rows_left, all_rows, rows_next, rows_end, rewrites_other, counts_other}
 use Rattle.maps.proofs.Passes.{place_is, same_section, Within, Without}
 
@@ -52,9 +53,9 @@ short {o} c =
     omega (arith, bound, few_rows Functions o.functions c.tables.functions, c.tables.instructions)
 
 -- ---- the stores
-pub plain_changed : (before mid after : List ℕ) (here : ℕ) (fd : ℤ) → SFits w32 fd → Inside before here → mid ≡ source_stored little 1 before here
+plain_stored : (before mid after : List ℕ) (here : ℕ) (fd : ℤ) → SFits w32 fd → Inside before here → mid ≡ source_stored little 1 before here
     → after ≡ immediate_stored little mid here (to_z w32 (of_z w32 fd)) → Changed before here fd none after
-plain_changed before mid after here fd f inside e₁ e₂ =
+plain_stored before mid after here fd f inside e₁ e₂ =
     let fits = sfits32 fd f in
     let e : after ≡ immediate_stored little (source_stored little 1 before here) here fd = e₂ ∙ ap (immediate_stored little mid here) (to_z-of_z w32 fd f) ∙ ap (λ m. immediate_stored little m here fd) e₁ in
     let k = source_kept little 1 (omega arith) before here inside in
@@ -63,10 +64,10 @@ plain_changed before mid after here fd f inside e₁ e₂ =
       kept = ap length e ∙ bytes_kept little (source_stored little 1 before here) here fd fits (omega arith) ∙ k;
     }
 
-pub value_changed : (before first second after : List ℕ) (here next : ℕ) (fd value : ℤ) → SFits w32 fd → SFits w32 value → Inside before (suc here) → next ≡ here + 1
+value_stored_at : (before first second after : List ℕ) (here next : ℕ) (fd value : ℤ) → SFits w32 fd → SFits w32 value → Inside before (suc here) → next ≡ here + 1
     → first ≡ source_stored little 2 before here → second ≡ immediate_stored little first next (to_z w32 (of_z w32 value))
     → after ≡ immediate_stored little second here (to_z w32 (of_z w32 fd)) → Changed before here fd (some value) after
-value_changed before first second after here next fd value f v inside n e₁ e₂ e₃ =
+value_stored_at before first second after here next fd value f v inside n e₁ e₂ e₃ =
     let fits = sfits32 fd f in
     let value_fits = sfits32 value v in
     let s : second ≡ immediate_stored little (source_stored little 2 before here) (suc here) value =
@@ -82,6 +83,19 @@ value_changed before first second after here next fd value f v inside n e₁ e�
       kept = ap length e ∙ bytes_kept little (immediate_stored little (source_stored little 2 before here) (suc here) value) here fd fits (omega arith) ∙ k₂ ∙ k;
     }
 
+pub plain_changed : (change : Change) {before mid after : List ℕ} → SFits w32 change.fd → change.value ≡ None → ChangesInside before change
+    → mid ≡ source_stored little 1 before change.here.0 → after ≡ immediate_stored little mid change.here.0 (to_z w32 (of_z w32 change.fd))
+    → Changed before change.here.0 change.fd (value_of change.value) after
+plain_changed change {before} {mid} {after} f e i e₁ e₂ =
+    rw e (plain_stored before mid after change.here.0 change.fd f (rw e at i.inside) e₁ e₂)
+
+pub value_changed : (change : Change) {before first second after : List ℕ} {next : ℕ} {value : ℤ} → SFits w32 change.fd → SFits w32 value → change.value ≡ Some value
+    → ChangesInside before change → next ≡ change.here.0 + 1 → first ≡ source_stored little 2 before change.here.0
+    → second ≡ immediate_stored little first next (to_z w32 (of_z w32 value)) → after ≡ immediate_stored little second change.here.0 (to_z w32 (of_z w32 change.fd))
+    → Changed before change.here.0 change.fd (value_of change.value) after
+value_changed change {before} {first} {second} {after} {next} {value} f v e i n e₁ e₂ e₃ =
+    rw e (value_stored_at before first second after change.here.0 next change.fd value f v (rw e at i.inside) n e₁ e₂ e₃)
+
 -- ---- one relocation
 module _ {o : Offered} {row first k : ℕ} (asked : Asked o row first k) where
   -- what changes nothing
@@ -94,11 +108,10 @@ module _ {o : Offered} {row first k : ℕ} (asked : Asked o row first k) where
     low = omega arith;
   }
 
-  pub skipped_rewritten : Judges o row first k Skipped → OneRewritten o row k 0 o.instructions
-  skipped_rewritten j = idle step.skipped j.says refl (λ later. refl)
-
-  pub refused_rewritten : (r : Refusal) → Judges o row first k (Refused r) → OneRewritten o row k 0 o.instructions
-  refused_rewritten r j = idle (step.refused _) j.says refl (λ later. refl)
+  pub idle_rewritten : (v : Verdict) → ((change : Change) → v ≡ Ok (Some change) → ⊥) → Judges o row first k v → OneRewritten o row k 0 o.instructions
+  idle_rewritten (Ok None) n j = idle step.skipped j.says refl (λ later. refl)
+  idle_rewritten (Ok (Some change)) n j = absurd (n change refl)
+  idle_rewritten (Err r) n j = idle (step.refused _) j.says refl (λ later. refl)
 
   -- what is changed at its place
   applied : (here : ℕ) (fd : ℤ) (value : Option ℤ) (after : List ℕ) → here ≡ first + slot_of o row k
@@ -110,13 +123,18 @@ module _ {o : Offered} {row first k : ℕ} (asked : Asked o row first k) where
     low = omega arith;
   }
 
-  pub plain_rewritten : {at : _} (here : ℕ) (fd : ℤ) (after : List ℕ) → here ≡ first + slot_of o row k → Judges o row first k (Plain at fd)
-      → Changed o.instructions here fd none after → OneRewritten o row k 1 after
-  plain_rewritten here fd after e j c = applied here fd none after e j.says c
+  module _ (change : Change) (j : Judges o row first k (Ok (Some change))) where
+    room_low : (n : ℕ) (value : _) → RoomFor (Inside o.instructions n) (Inside o.instructions (suc n)) value → n + 1 < 2 ^ 32
+    room_low n None inside = omega (arith, short asked.of_row.checked)
+    room_low n (Some value) inside = omega (arith, short asked.of_row.checked)
 
-  pub valued_rewritten : {at : _} (here : ℕ) (fd value : ℤ) (after : List ℕ) → here ≡ first + slot_of o row k → Judges o row first k (Valued at fd value)
-      → Changed o.instructions here fd (some value) after → OneRewritten o row k 1 after
-  valued_rewritten here fd value after e j c = applied here fd (some value) after e j.says c
+    pub changes_inside : ChangesInside o.instructions change
+    changes_inside =
+        let inside = subst (λ n. RoomFor (Inside o.instructions n) (Inside o.instructions (suc n)) change.value) (sym j.places.0) j.places.1 in
+        record { inside = inside; low = room_low change.here.0 change.value inside }
+
+    pub change_rewritten : (after : List ℕ) → Changed o.instructions change.here.0 change.fd (value_of change.value) after → OneRewritten o row k 1 after
+    change_rewritten after c = applied change.here.0 change.fd (value_of change.value) after j.places.0 j.says c
 
 joined : (a b c : ℕ) → a + (b + c) ≡ a + b + c
 joined a b c = omega arith

@@ -5,8 +5,8 @@ use mathlib.Core.Option.{Option, none, some}
 use mathlib.Core.List.{List}
 use Prim.Native.Nat.{ℕ}
 use native.Mathlib.Omega.{arith}
-use Rattle.rules.specs.declared.Answer.{Answer}
-use Rattle.rules.specs.declared.Answer.TheVariants.{Done, Refused}
+use Rattle.std.specs.Prelude.{Result, Ok, Err}
+use Rattle.rules.specs.declared.Places.{Places}
 use Rattle.rules.specs.declared.Refusal as told
 use Rattle.rules.specs.declared.Table.TheVariants.{Instructions}
 use Rattle.rules.specs.Link.{Refusal}
@@ -36,11 +36,11 @@ module _ {o : Offered} (checked : MapChecked o) where
   unfolding tables_of map_step_in_place refused rewritten
   outcome = sym (map_step_in_place_lem (tables o) (rows_rise o.relocations checked.tables.relocations))
 
-  pub refused_steps : (r : told.Refusal) → some (refused_reply r) ≡ step_refusal o → Relocated (step_result o) (Refused r) o.instructions
+  pub refused_steps : {r : told.Refusal} (s : Result Places told.Refusal) → s ≡ Err r → some (refused_reply r) ≡ step_refusal o → Relocated (step_result o) s o.instructions
   unfolding step_refusal step_result refused
-  refused_steps r e = go refused refl e
+  refused_steps {r} s said e = rw said (go refused refl e)
     where
-      go : (x : Option Refusal) → refused ≡ x → some (refused_reply r) ≡ replied x → Relocated (step_result o) (Refused r) o.instructions
+      go : (x : Option Refusal) → refused ≡ x → some (refused_reply r) ≡ replied x → Relocated (step_result o) (Err r) o.instructions
       go none f e = let z : ◌≡◌ {A = ℕ} 0 1 = cc in absurd (omega arith)
       go (some why) f e =
           let said : refused_reply r ≡ refusal_reply why = cc in
@@ -51,7 +51,7 @@ module _ {o : Offered} (checked : MapChecked o) where
           }
 
   pub accepted_steps : none ≡ step_refusal o → (count : ℕ) (after : List ℕ) → AllRewritten o count after → AreBytes after
-      → Relocated (step_result o) (Done (record { 0 = count; 1 = 0; 2 = 0 })) after
+      → Relocated (step_result o) (Ok (record { 0 = count; 1 = 0; 2 = 0 })) after
   unfolding step_refusal step_result refused rewritten
   accepted_steps e count after r bytes =
       let step = outcome ∙ ap (λ x. unless_refused (tables o) x rewritten) (none_replied refused (sym e)) in
@@ -63,14 +63,15 @@ module _ {o : Offered} (checked : MapChecked o) where
 
 -- ---- the tables as they come
 module _ (o : Offered) where
-  pub unchecked_relocated : (r : told.Refusal) → some (refused_reply r) ≡ map_step_refusal o → Relocated (map_entry little o) (Refused r) o.instructions
+  pub unchecked_relocated : {r : told.Refusal} (s : Result Places told.Refusal) → s ≡ Err r → some (refused_reply r) ≡ map_step_refusal o
+      → Relocated (map_entry little o) s o.instructions
   unfolding map_entry
-  unchecked_relocated r e = record {
+  unchecked_relocated s said e = rw said (record {
     reply = ap (λ x. (unless_map_refused little o x).reply) e;
     instructions = ap (λ x. (unless_map_refused little o x).instructions) e;
-  }
+  })
 
-  pub checked_relocated : none ≡ map_step_refusal o → (r : Answer) (after : List ℕ) → Relocated (step_result o) r after → Relocated (map_entry little o) r after
+  pub checked_relocated : none ≡ map_step_refusal o → (r : Result Places told.Refusal) (after : List ℕ) → Relocated (step_result o) r after → Relocated (map_entry little o) r after
   unfolding map_entry step_result
   checked_relocated e r after s = record {
     reply = s.reply ∙ ap (λ x. (unless_map_refused little o x).reply) e;

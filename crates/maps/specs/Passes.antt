@@ -1,8 +1,9 @@
 -- What the two passes over the functions and their relocations answer and leave.
 -- Assumes nothing.
-use Rattle.std.specs.Prelude.{◌≡◌, Bool, ◌&&◌, List, ℕ, ◌+◌, ◌*◌, ◌≤◌, ℤ, eqb, ltb, length}
+use Rattle.std.specs.Prelude.{◌≡◌, Bool, ◌&&◌, List, ℕ, ◌+◌, ◌*◌, ◌≤◌, ℤ, suc, ◌<◌, ◌^◌, eqb, ltb, length, Result, Ok, Err}
 use Rattle.std.proofs.Math.Option.{Option, none, some}
-use Rattle.rules.specs.declared.Answer.{Answer}
+use Rattle.rules.specs.declared.Places.{Places}
+use Rattle.rules.specs.declared.Refusal as told
 use Rattle.rules.specs.declared.Table.TheVariants.{Relocations}
 use Rattle.rules.specs.Link.{Refusal}
 use Rattle.rules.specs.Bytes.{little, decoded}
@@ -12,16 +13,14 @@ use Rattle.rules.specs.Rows.{Offered, whole_rows, function_section, function_off
 use Rattle.rules.specs.Lookups.{relocations_before}
 use Rattle.rules.specs.Entries.{refusal_reply, MapResult, by_map_outcome}
 use Rattle.rules.proofs.InPlace.{rewrite_in_place, applied_in_place}
-use Rattle.judge.specs.declared.Verdict.{Verdict}
-use Rattle.judge.specs.declared.Verdict.TheVariants.{Skipped, Refused, Plain, Valued}
-use Rattle.judge.specs.Judged.{tables, slots_of, task_of}
+use Rattle.judge.specs.declared.Change.{Change}
+use Rattle.judge.specs.Verdicts.{Verdict, RoomFor}
+use Rattle.judge.specs.Judged.{tables, slots_of, task_of, Inside}
 
 -- ---- refusals
 abbrev pub verdict_refusal : Verdict → Option Reply
-verdict_refusal Skipped = none
-verdict_refusal (Refused r) = some (refused_reply r)
-verdict_refusal (Plain here fd) = none
-verdict_refusal (Valued here fd value) = none
+verdict_refusal (Ok change) = none
+verdict_refusal (Err r) = some (refused_reply r)
 
 abbrev pub replied : Option Refusal → Option Reply
 replied none = none
@@ -46,6 +45,11 @@ unfoldable pub step_refusal : Offered → Option Reply
 step_refusal o = replied (first_refusal (tables o) (slots_of o) (all_tasks (tables o)))
 
 -- ---- the second: the slots as they stand, judged again and rewritten. `after` is then table 6
+-- a change of a slot of table 6, the next one too where that gets a value
+pub record ChangesInside (before : List ℕ) (change : Change) : Type 0 where
+  pub inside : RoomFor (Inside before change.here.0) (Inside before (suc change.here.0)) change.value
+  pub low : change.here.0 + 1 < 2 ^ 32
+
 pub record Changed (before : List ℕ) (here : ℕ) (fd : ℤ) (value : Option ℤ) (after : List ℕ) : Type 0 where
   pub image : decoded little after ≡ changed here fd value (decoded little before)
   pub kept : length after ≡ length before
@@ -73,6 +77,6 @@ unfoldable pub step_result : Offered → MapResult
 step_result o = by_map_outcome little o.instructions (map_step (tables o))
 
 -- an answer, and what table 6 then holds
-pub record Relocated (result : MapResult) (r : Answer) (after : List ℕ) : Type 0 where
+pub record Relocated (result : MapResult) (r : Result Places told.Refusal) (after : List ℕ) : Type 0 where
   pub reply : reply_of r ≡ result.reply
   pub instructions : after ≡ result.instructions

@@ -123,22 +123,6 @@ unfolding line_one pair_bytes
 line_packed [] = refl
 line_packed (r ∷ rs) = ap (λ l. line_one r ++ l) (line_packed rs)
 
-pub func_bytes_length : (rs : List FunctionRecord) → length (func_info_bytes little rs) ≡ 8 * length rs
-func_bytes_length rs = ap length (func_packed rs) ∙ packed_length func_one 8 func_sized rs
-
-pub line_bytes_length : (rs : List LineRecord) → length (line_info_bytes little rs) ≡ 16 * length rs
-line_bytes_length rs = ap length (line_packed rs) ∙ packed_length line_one 16 line_sized rs
-
-pub func_bytes_append : (xs ys : List FunctionRecord) → func_info_bytes little (xs ++ ys) ≡ func_info_bytes little xs ++ func_info_bytes little ys
-func_bytes_append xs ys =
-    func_packed (xs ++ ys) ∙ packed_append func_one xs ys ∙ ap (λ l. l ++ packed func_one ys) (sym (func_packed xs))
-    ∙ ap (λ l. func_info_bytes little xs ++ l) (sym (func_packed ys))
-
-pub line_bytes_append : (xs ys : List LineRecord) → line_info_bytes little (xs ++ ys) ≡ line_info_bytes little xs ++ line_info_bytes little ys
-line_bytes_append xs ys =
-    line_packed (xs ++ ys) ∙ packed_append line_one xs ys ∙ ap (λ l. l ++ packed line_one ys) (sym (line_packed xs))
-    ∙ ap (λ l. line_info_bytes little xs ++ l) (sym (line_packed ys))
-
 -- records that a loop made, one for each number
 pub func_linked : (h : FunctionRecord → FunctionRecord) (f : ℕ → FunctionRecord) (first n : ℕ)
     → func_info_bytes little (map h (run f first n)) ≡ packed func_one (run (λ k. h (f k)) first n)

@@ -1,6 +1,6 @@
 -- One function added to an image: the bytes that its row of table 3 stands for in tables 6, 7 and 8, and what they become.
 -- Assumes nothing.
-use Rattle.std.specs.Prelude.{◌≡◌, Bool, true, ◌&&◌, List, ◌++◌, map, ℕ, ◌+◌, ◌-◌, ◌*◌, ◌≤◌, ◌<◌, leb, length, take, drop}
+use Rattle.std.specs.Prelude.{◌≡◌, Bool, true, ◌&&◌, List, ◌++◌, map, ℕ, ◌+◌, ◌-◌, ◌*◌, ◌≤◌, ◌<◌, leb, ltb, length, take, drop}
 use Rattle.std.proofs.Math.Option.{Option, none}
 use Rattle.rules.specs.declared.Table.TheVariants.{Functions, Instructions, FuncInfo, LineInfo}
 use Rattle.rules.specs.Bytes.{little, bytes4, splice}
@@ -39,6 +39,10 @@ func_bytes functions func_info row start = func_info_bytes little (map (started_
 
 unfoldable pub line_bytes : List ℕ → List ℕ → ℕ → ℕ → List ℕ
 line_bytes functions line_info row start = line_info_bytes little (moved start (line_rows functions line_info row))
+
+-- "12 if that difference is negative or not below the function's slots": a record that it does not refuse
+abbrev pub stays : ℕ → ℕ → LineRecord → Bool
+stays slots origin l = leb origin l.slot && ltb (l.slot - origin) slots
 
 -- "12 if that difference is negative or not below the function's slots": the first such record
 abbrev pub stray_in : List ℕ → List ℕ → ℕ → Option ℕ

@@ -1,15 +1,15 @@
 // One function added to an image: room, line records that stray, copies of slots and records.
 #![tactic(auto)]
 
-ghost use Rattle.std.specs.Prelude.{◌≡◌, map, ◌+◌, ◌*◌, ◌/◌, ◌≤◌, ◌<◌, min, leb, length, take, drop};
+ghost use Rattle.std.specs.Prelude.{◌≡◌, map, ◌+◌, ◌*◌, ◌/◌, ◌≤◌, ◌<◌, min, leb, length, take, drop, not};
 ghost use Rattle.rules.specs.declared.Table.TheVariants.{Functions, FuncInfo, LineInfo};
 ghost use Rattle.rules.specs.Bytes.{little, splice, AreBytes};
 ghost use Rattle.rules.specs.Lent.{lent_parts, lent_image};
-ghost use Rattle.rules.specs.Rows.{row_size, whole_rows};
+ghost use Rattle.rules.specs.Rows.{row_size, whole_rows, line_info_row};
 ghost use Rattle.rules.specs.Records.{started_at};
 ghost use Rattle.rules.specs.Entries.{func_info_bytes, line_info_bytes};
 ghost use Rattle.rules.specs.Lookups.{found_of};
-ghost use Rattle.merge.specs.Merge.{RowCounts, PartBegins, Sums, Addable, sum, room_bytes, Lined, stray_in, Copyable, pair_bytes};
+ghost use Rattle.merge.specs.Merge.{RowCounts, PartBegins, Sums, Addable, sum, room_bytes, Lined, stays, stray_in, Copyable, pair_bytes};
 ghost use Rattle.merge.specs.Merge.{funcs_from, lines_from, moved, Near, Extends, Extended, Begins, Begun, SameOutputs};
 
 use rows::fields::{
@@ -108,6 +108,15 @@ pub fn has_room(functions: &[u8], image: &Image, used: Used, row: usize) -> bool
     )
 }
 
+// Whether a line record lies before the slot `origin`, or `slots` slots after it or more.
+fn is_stray(line_info: &[u8], k: usize, origin: u32, slots: u32) -> bool
+    requires { row_size LineInfo * k + row_size LineInfo ≤ length line_info.now }
+    ensures { result ≡ not (stays slots origin (line_info_row little line_info.now k)) }
+{
+    let slot = line_info_slot(line_info, k);
+    slot < origin || slot - origin >= slots
+}
+
 // The first line record of a function that lies before its first one, or past its slots.
 pub fn stray_line(functions: &[u8], line_info: &[u8], row: usize, first: u32) -> Option<usize>
     requires { Lined functions.now line_info.now row first }
@@ -120,13 +129,7 @@ pub fn stray_line(functions: &[u8], line_info: &[u8], row: usize, first: u32) ->
     }
     let slots = function_slots(functions, row).0;
     let origin = line_info_slot(line_info, at);
-    for k in 0..count {
-        let slot = line_info_slot(line_info, at + k);
-        if slot < origin || slot - origin >= slots {
-            return Some(k);
-        }
-    }
-    None
+    (0..count).find(|k| is_stray(line_info, at + *k, origin, slots))
 }
 
 fn put_pair(out: &mut [u8], at: usize, a: u32, b: u32)

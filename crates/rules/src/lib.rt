@@ -92,6 +92,7 @@ pub struct Program<'a> {
 }
 
 // The same as a link's three outputs.
+#[derive(Drop)]
 pub struct Image<'a> {
     pub slots: &'a mut [u8],
     pub func_info: &'a mut [u8],

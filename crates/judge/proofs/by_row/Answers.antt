@@ -8,15 +8,15 @@ use Rattle.judge.proofs.Laws.{text_says}
 use Rattle.judge.proofs.by_row.Goals.{After-symbol_kind}
 use Rattle.judge.proofs.by_row.Goals as goal
 
-no_code : (t : After-symbol_kind) → is_code_section t.args.code.now t.symbol_section-home.result ≡ false
+no_code : (t : After-symbol_kind) → is_code_section t.args.names.code.now t.symbol_section-home.result ≡ false
 no_code t = sym t.is_code.ensures ∙ t.if-is_code.false
 
 pub returns-then-symbol_kind-eq-TEXT : goal.returns-then-symbol_kind-eq-TEXT
 returns-then-symbol_kind-eq-TEXT c =
     let a = c.args in
-    text_says a.code.now a.symbols.now a.maps.now a.s a.symbol a.site _ c.symbol_section-home.ensures c.if-home.false
+    text_says a.names.code.now a.names.symbols.now a.maps.now a.s a.symbol a.site _ c.symbol_section-home.ensures c.if-home.false
     c.if-site.false (no_code (goal.at.returns-then-symbol_kind-eq-TEXT c).After-symbol_kind) (sym c.symbol_kind.ensures ∙ c.if-symbol_kind-eq-TEXT.true) _ c.refused.ensures
 
 pub by_map-requires : goal.by_map-requires
 by_map-requires c =
-    (c.requires.0.maps_sound, omega (arith, c.symbol_address-address.ensures, (good_symbol c.args.symbols.now c.requires.0.symbols_sound c.args.s c.requires.1).address))
+    (c.requires.0.maps_sound, omega (arith, c.symbol_address-address.ensures, (good_symbol c.args.names.symbols.now c.requires.0.symbols_sound c.args.s c.requires.1).address))

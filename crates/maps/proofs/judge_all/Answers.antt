@@ -1,28 +1,20 @@
 -- The invariant: the functions that are left give the first refusal.
-use mathlib.Core.Path.{◌≡◌, sym, ap, ◌∙◌}
+use mathlib.Core.Path.{sym, ap, ◌∙◌}
 use native.Mathlib.Omega.{arith}
+use Rattle.std.specs.Prelude.{Err}
+use Rattle.std.proofs.lemmas.Result.{err_from_is_err_and}
 use Rattle.rules.specs.Answers.{refusal_in}
-use Rattle.rules.specs.declared.Judgement.{Judgement}
-use Rattle.rules.specs.Lent.{offered_maps}
-use Rattle.rules.specs.Rows.{Offered}
-use Rattle.maps.specs.Passes.{row_refusal}
 use Rattle.maps.proofs.Passes.{slots_low, judge_rows_start, judge_rows_end, judge_rows_refused, judge_rows_next}
-use Rattle.maps.proofs.judge_all.Goals.{After-judge_function-j, Start}
 use Rattle.maps.proofs.judge_all.Goals as goal
-
-abbrev offered : Start → Offered
-offered s = offered_maps s.args.code.now s.args.symbols.now s.args.functions.now s.args.relocations.now s.args.maps.now s.args.instructions.now
-
--- what was said of a function
-told : (n : After-judge_function-j) (j : Judgement) → n.judge_function-j.result ≡ j → refusal_in j ≡ row_refusal (offered (goal.at.After-judge_function-j n).Start) n.loop-row.row
-told n j e = sym (ap refusal_in e) ∙ n.judge_function-j.ensures
 
 pub loop-row-init : goal.loop-row-init
 loop-row-init c = judge_rows_start _
 
-pub returns-in-Refused : goal.returns-in-Refused
-returns-in-Refused c =
-    judge_rows_refused c.requires c.loop-row.invariant (omega (arith, c.loop-row-test.true)) c.in-Refused.r (told (goal.at.returns-in-Refused c).After-judge_function-j _ c.in-Refused.is)
+pub returns-in_err-judge_function : goal.returns-in_err-judge_function
+returns-in_err-judge_function c =
+    let p = err_from_is_err_and c.from_residual.result c.from_residual.ensures.1 in
+    ap refusal_in (p.1 ∙ ap Err p.2)
+    ∙ judge_rows_refused c.requires c.loop-row.invariant (omega (arith, c.loop-row-test.true)) _ (sym (ap refusal_in c.in_err-judge_function.was) ∙ c.judge_function.ensures)
 
 pub overflow_add-first : goal.overflow_add-first
 overflow_add-first c =
@@ -31,7 +23,7 @@ overflow_add-first c =
 pub loop-row-preserved : goal.loop-row-preserved
 loop-row-preserved c =
     judge_rows_next c.requires c.loop-row.invariant (omega (arith, c.loop-row-test.true)) _ c.function_slots-slots.ensures
-    (told (goal.at.loop-row-preserved c).After-judge_function-j _ c.in-Passes.is)
+    (sym (ap refusal_in c.in_ok-judge_function.was) ∙ c.judge_function.ensures)
 
 pub returns : goal.returns
 returns c = judge_rows_end c.requires c.loop-row.invariant (omega (arith, c.loop-row-test.false))

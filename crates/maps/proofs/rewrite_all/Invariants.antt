@@ -6,7 +6,7 @@ use Rattle.maps.proofs.rewrite_all.Given as goal
 
 abbrev pub invariant-loop-row : goal.invariant-loop-row
 invariant-loop-row l =
-    RewriteRows (map_step_offer l.code l.symbols l.functions l.relocations l.maps l.initial.instructions) l.instructions l.row l.first l.count
+    RewriteRows (map_step_offer l.names.code.now l.names.symbols.now l.names.functions.now l.names.relocations.now l.maps l.initial.instructions) l.instructions l.row l.first l.count
 
 abbrev pub decreases-loop-row : goal.decreases-loop-row
 decreases-loop-row l = l.rows - l.row

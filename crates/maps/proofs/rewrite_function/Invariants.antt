@@ -6,7 +6,7 @@ use Rattle.maps.proofs.rewrite_function.Given as goal
 
 abbrev pub invariant-loop-k : goal.invariant-loop-k
 invariant-loop-k l =
-    RewriteScan (map_step_offer l.code l.symbols l.functions l.relocations l.maps l.initial.instructions) l.instructions l.row l.k l.count
+    RewriteScan (map_step_offer l.names.code.now l.names.symbols.now l.names.functions.now l.names.relocations.now l.maps l.initial.instructions) l.instructions l.row l.k l.count
 
 abbrev pub decreases-loop-k : goal.decreases-loop-k
 decreases-loop-k l = l.n - l.k
