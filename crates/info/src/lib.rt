@@ -79,10 +79,7 @@ impl<'a> Records<'a> {
         let size = self.size as usize;
         size >= self.kind.row_size()
             && self.count as usize * size == self.bytes.len()
-            && self
-                .bytes
-                .chunks_exact(size)
-                .all(|record| begins_on_slot(record))
+            && self.bytes.chunks_exact(size).all(begins_on_slot)
     }
 
     fn has_record(self, k: u32) -> bool

@@ -131,13 +131,7 @@ fn by_row(
     ensures { Says site (row_verdict names.entry.code.now names.entry.symbols.now maps.now s symbol site) result }
 {
     let home = symbol_section(names.symbols, s);
-    if home == NONE {
-        return Ok(None);
-    }
-    if site.call {
-        return Ok(None);
-    }
-    if is_code(names.code, home) {
+    if home == NONE || site.call || is_code(names.code, home) {
         return Ok(None);
     }
     if symbol_kind(names.symbols, s) == TEXT {
