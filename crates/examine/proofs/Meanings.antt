@@ -1,15 +1,16 @@
 -- A slot's judgement by the code's answer is the definitions' own; and what the loop over a piece's slots asks.
 -- Assumes nothing.
-use mathlib.Core.Path.{◌≡◌, sym, ap, subst, ◌∙◌}
-use mathlib.Core.Bool.{true, false}
+use mathlib.Core.Path.{◌≡◌, refl, sym, ap, subst, ◌∙◌}
+use mathlib.Core.Bool.{Bool, true, false, cond, ◌&&◌}
 use mathlib.Core.Option.{Option, some}
 use mathlib.Core.List.{List, []}
 use Prim.Native.Nat.{ℕ, ◌+◌, ◌≤◌, ◌<◌}
 use native.Mathlib.Omega.{arith}
-use borrow.Author.Tests.{eq-eqb, ne_eqb}
+use lib.Dec.{eqb}
 use Rattle.rules.specs.declared.Table.TheVariants.{Functions}
-use Rattle.rules.specs.declared.Found.{Found}
-use Rattle.rules.specs.Object.{Insn, reference, meaning}
+use Rattle.std.specs.Prelude as prelude
+use Rattle.std.specs.Prelude.{Some, None, Ok, Err}
+use Rattle.rules.specs.Object.{Insn, reference, call, meaning}
 use Rattle.rules.specs.Object as object
 use Rattle.rules.specs.Bytes.{little, slot_in, decoded}
 use Rattle.rules.specs.Faithful.{Piece, piece, slot_at}
@@ -22,37 +23,51 @@ use Rattle.rules.specs.Examine.{same_number, same_form, shown, claim_of, slot_wr
 use Rattle.rules.proofs.Passed.{few_rows}
 use Rattle.rules.proofs.Reading.{row_is}
 use Rattle.rules.proofs.Writing.{decoded_at}
-use Rattle.resolve.specs.declared.Meaning.{Meaning}
-use Rattle.resolve.specs.declared.Meaning.TheVariants.{Copied, Points, Refused}
+use Rattle.rules.specs.declared.Refusal.{Refusal}
+use Rattle.resolve.specs.declared.Pointer.{Pointer}
 use Rattle.resolve.specs.Means.{Means}
 use Rattle.resolve.specs.Resolves.{Resolves}
 use Rattle.resolve.proofs.Laws.{points_inside}
 use Rattle.resolve.proofs.Slots.{end_inside, insn_at}
-use Rattle.examine.specs.Compared.{Compares, Callable, Visits, meant_wrong}
+use Rattle.examine.specs.Compared.{Compares, Callable, Visits, call_wrong, reference_wrong, meant_wrong}
 
--- ---- what a reference may not change, field by field
+-- ---- what a reference may not change: opcode and destination, and the offset
 module _ (i j : Insn) where
-  pub opcodes_differ : (i.opcode ≡ j.opcode → ⊥) → false ≡ same_form i j
-  unfolding same_form
-  opcodes_differ n = rw (ne_eqb i.opcode j.opcode n)
+  abbrev heads : Bool
+  heads = eqb i.opcode j.opcode && eqb i.destination j.destination
 
-  pub destinations_differ : i.opcode ≡ j.opcode → (i.destination ≡ j.destination → ⊥) → false ≡ same_form i j
+  form_is : same_form i j ≡ (heads && same_number i.offset j.offset)
   unfolding same_form
-  destinations_differ e n = rw (eq-eqb i.opcode j.opcode e, ne_eqb i.destination j.destination n)
+  form_is = go (eqb i.opcode j.opcode)
+    where
+      go : (b : Bool) → (b && (eqb i.destination j.destination && same_number i.offset j.offset)) ≡ ((b && eqb i.destination j.destination) && same_number i.offset j.offset)
+      go true = refl
+      go false = refl
 
-  pub offsets : i.opcode ≡ j.opcode → i.destination ≡ j.destination → same_number i.offset j.offset ≡ same_form i j
-  unfolding same_form
-  offsets e f = rw (eq-eqb i.opcode j.opcode e, eq-eqb i.destination j.destination f)
+  pub forms_differ : (eqb i.opcode j.opcode && eqb i.destination j.destination) ≡ false → false ≡ same_form i j
+  forms_differ e = sym (form_is ∙ ap (λ b. b && same_number i.offset j.offset) e)
+
+  pub offsets : (eqb i.opcode j.opcode && eqb i.destination j.destination) ≡ true → same_number i.offset j.offset ≡ same_form i j
+  offsets e = sym (form_is ∙ ap (λ b. b && same_number i.offset j.offset) e)
 
 -- ---- by the answer of the code
+abbrev Meant : Type 0
+Meant = prelude.Result (prelude.Option Pointer) Refusal
+
 module _ (pieces : List Piece) (k row slot here : ℕ) (source i : Insn) where
-  pub meant : (m : Meaning) (d : object.Meaning) → Means row slot m d
+  pointed : (callee : ℕ) (refers : Bool) → slot_wrong pieces k row slot here source i (cond refers (reference callee) (call callee))
+      ≡ cond refers (reference_wrong pieces k slot here source i callee) (call_wrong pieces k slot here source i callee)
+  unfolding slot_wrong
+  pointed callee true = refl
+  pointed callee false = refl
+
+  pub meant : (m : Meant) (d : object.Meaning) → Means row slot m d
       → slot_wrong pieces k row slot here source i d ≡ meant_wrong pieces k slot here source i m
   unfolding slot_wrong
-  meant Copied d e = ap (slot_wrong pieces k row slot here source i) e
-  meant (Points callee true) d e = ap (slot_wrong pieces k row slot here source i) e
-  meant (Points callee false) d e = ap (slot_wrong pieces k row slot here source i) e
-  meant (Refused r) d e = ap (slot_wrong pieces k row slot here source i) e.refusal ∙ ap some (sym e.places)
+  meant (Ok None) d e = ap (slot_wrong pieces k row slot here source i) e
+  meant (Ok (Some p)) d e =
+      ap (slot_wrong pieces k row slot here source i) e ∙ pointed p.callee p.reference
+  meant (Err r) d e = ap (slot_wrong pieces k row slot here source i) e.refusal ∙ ap some (sym e.places)
 
 -- ---- the slots of a piece
 module _ (o : Offered) (image pieces : List ℕ) (k row start : ℕ) where
@@ -70,13 +85,13 @@ module _ (o : Offered) (image pieces : List ℕ) (k row start : ℕ) where
     image_is : slot_at (decoded little image) (start + slot) ≡ slot_in little image (start + slot)
     image_is = decoded_at little image (start + slot) (omega (arith, v.inside))
 
-    module _ {rel : Found} (r : Resolves o row first slot rel) where
+    module _ {rel : (prelude.Option ℕ)} (r : Resolves o row first slot rel) where
       insn_is : (object_of (tables_of little o)).insn row slot ≡ slot_in little o.instructions (first + slot)
       unfolding object_of
       insn_is = insn_at r slot turn
 
       -- the code's judgement of the slot
-      pub test_is : (m : Meaning) → Means row slot m (meaning (object_of (tables_of little o)) row slot)
+      pub test_is : (m : Meant) → Means row slot m (meaning (object_of (tables_of little o)) row slot)
           → slot_test slot ≡ meant_wrong (pieces_of pieces) k slot (start + slot) (slot_in little o.instructions (first + slot)) (slot_in little image (start + slot)) m
       unfolding slot_test
       test_is m e =
@@ -85,10 +100,10 @@ module _ (o : Offered) (image pieces : List ℕ) (k row start : ℕ) where
           ∙ meant (pieces_of pieces) k row slot (start + slot) (slot_in little o.instructions (first + slot)) (slot_in little image (start + slot)) m
           (meaning (object_of (tables_of little o)) row slot) e
 
-      pub callable : (m : Meaning) → Means row slot m (meaning (object_of (tables_of little o)) row slot) → Callable m
-      callable Copied e = tt
-      callable (Points callee refers) e = omega (arith, points_inside o row slot callee refers e, few_rows Functions o.functions v.tables.functions)
-      callable (Refused x) e = tt
+      pub callable : (m : Meant) → Means row slot m (meaning (object_of (tables_of little o)) row slot) → Callable m
+      callable (Ok None) e = tt
+      callable (Ok (Some p)) e = omega (arith, points_inside o row slot p e, few_rows Functions o.functions v.tables.functions)
+      callable (Err x) e = tt
 
       pub compares : {here at : ℕ} → here ≡ start + slot → at ≡ first + slot → Compares image here o.instructions at pieces
       compares p q = record {
@@ -99,10 +114,10 @@ module _ (o : Offered) (image pieces : List ℕ) (k row start : ℕ) where
 -- the same, where the code holds these numbers under names of its own
 module _ {o : Offered} {image pieces : List ℕ} {row start first : ℕ} (v : Visits o image pieces row start first) (k : ℕ) {n slot : ℕ} (is : slot ≡ n)
     (turn : n < function_slots o.functions row) where
-  means_at : (m : Meaning) → Means row slot m (meaning (object_of (tables_of little o)) row slot) → Means row n m (meaning (object_of (tables_of little o)) row n)
+  means_at : (m : Meant) → Means row slot m (meaning (object_of (tables_of little o)) row slot) → Means row n m (meaning (object_of (tables_of little o)) row n)
   means_at m e = subst (λ s. Means row s m (meaning (object_of (tables_of little o)) row s)) is e
 
-  module _ {rel : Found} (r : Resolves o row first slot rel) (m : Meaning) (means : Means row slot m (meaning (object_of (tables_of little o)) row slot)) where
+  module _ {rel : (prelude.Option ℕ)} (r : Resolves o row first slot rel) (m : Meant) (means : Means row slot m (meaning (object_of (tables_of little o)) row slot)) where
     at_n : Resolves o row first n rel
     at_n = subst (λ s. Resolves o row first s rel) is r
 
@@ -124,13 +139,8 @@ module _ {o : Offered} {image pieces : List ℕ} {row start first : ℕ} (v : Vi
           ∙ ap (λ x. meant_wrong (pieces_of pieces) k n (start + n) (slot_in little o.instructions x) (slot_in little image (start + n)) m) a)
           ∙ sym e
 
--- ---- the cursor, where the code holds the place under names of its own
-module _ (t : List ℕ) {home home' place place' : ℕ} (h : home ≡ home') (p : place ≡ place') where
-  pub before_at : {cursor : ℕ} → cursor ≤ relocations_before t home' place' → cursor ≤ relocations_before t home place
-  before_at l = rw (h, p) l
-
-  pub before_is : {cursor : ℕ} → cursor ≡ relocations_before t home place → cursor ≡ relocations_before t home' place'
-  before_is e = e ∙ ap (λ x. relocations_before t x place) h ∙ ap (relocations_before t home') p
-
-  pub with_is : {rel : Found} → rel ≡ found_of (relocation_with t home place) → rel ≡ found_of (relocation_with t home' place')
-  with_is e = e ∙ ap (λ x. found_of (relocation_with t x place)) h ∙ ap (λ x. found_of (relocation_with t home' x)) p
+-- ---- the cursor, where the code holds its table and the place under names of its own
+pub with_is : {t t' : List ℕ} {home home' place place' : ℕ} → t ≡ t' → home ≡ home' → place ≡ place' → {rel : prelude.Option ℕ}
+    → rel ≡ found_of (relocation_with t home place) → rel ≡ found_of (relocation_with t' home' place')
+with_is {t} {t'} {home} {home'} {place} table h p e =
+    e ∙ ap (λ x. found_of (relocation_with x home place)) table ∙ ap (λ x. found_of (relocation_with t' x place)) h ∙ ap (λ x. found_of (relocation_with t' home' x)) p

@@ -13,91 +13,56 @@ use Rattle.rules.specs.declared.Table.TheVariants.{FuncInfo, LineInfo}
 use Rattle.rules.specs.Bytes.{little}
 use Rattle.rules.specs.Answers.{Reply, reply}
 use Rattle.rules.specs.Tables.{FunctionRecord, LineRecord, Tables}
-use Rattle.rules.specs.Rows.{whole_rows, table_number, record_slot, func_info_row, line_info_row}
+use Rattle.rules.specs.Rows.{whole_rows, table_number, or_else, record_slot, func_info_row, line_info_row}
 use Rattle.rules.specs.Examine.{Shown, claim_of, same_function_record, same_line_record, over_wrong}
 use Rattle.rules.proofs.Linking.{length_run}
-use Rattle.examine.specs.Recorded.{func_of, line_of, func_wrong, line_wrong, stray_reply, stray_of, Movable}
+use Rattle.examine.specs.declared.records.FuncRecord as code
+use Rattle.examine.specs.declared.records.LineRecord as lines
+use Rattle.examine.specs.Recorded.{func_read, line_read, func_of, line_of, record_wrong, stray_reply, stray_of, over, Movable}
 
--- ---- function records
-module _ (a b : FunctionRecord) where
-  pub func_slots_differ : (a.slot ≡ b.slot → ⊥) → false ≡ same_function_record a b
-  unfolding same_function_record
-  func_slots_differ n = rw (ne_eqb a.slot b.slot n)
+-- ---- a record's judgement by a test
+module _ (number k n at : ℕ) (test : ℕ → Bool) (j : ℕ) where
+  pub missing : n ≤ at + j → record_wrong number k n at test j ≡ some (reply number k j (at + j))
+  missing l = ap (λ b. cond (b && test j) none (some (reply number k j (at + j)))) (le-ltb (at + j) n l)
 
-  pub func_kinds : a.slot ≡ b.slot → eqb a.kind b.kind ≡ same_function_record a b
-  unfolding same_function_record
-  func_kinds e = rw (eq-eqb a.slot b.slot e)
+  tested : at + j < n → record_wrong number k n at test j ≡ cond (test j) none (some (reply number k j (at + j)))
+  tested l = ap (λ b. cond (b && test j) none (some (reply number k j (at + j)))) (lt-ltb (at + j) n l)
 
+  pub differs : at + j < n → test j ≡ false → record_wrong number k n at test j ≡ some (reply number k j (at + j))
+  differs l e = tested l ∙ ap (λ b. cond b none (some (reply number k j (at + j)))) e
+
+  pub same_there : at + j < n → test j ≡ true → record_wrong number k n at test j ≡ none
+  same_there l e = tested l ∙ ap (λ b. cond b none (some (reply number k j (at + j)))) e
+
+-- ---- records as code has them, compared field by field
+pub same_funcs : (r s : code.FuncRecord) {a b : FunctionRecord} → func_read r ≡ a → func_read s ≡ b
+    → (eqb r.slot s.slot && eqb r.kind s.kind) ≡ same_function_record a b
+unfolding same_function_record
+same_funcs r s e f = rw (sym e, sym f) refl
+
+pub same_lines : (r s : lines.LineRecord) {a b : LineRecord} → line_read r ≡ a → line_read s ≡ b
+    → (eqb r.slot s.slot && (eqb r.file s.file && (eqb r.line s.line && eqb r.column s.column))) ≡ same_line_record a b
+unfolding same_line_record
+same_lines r s e f = rw (sym e, sym f) refl
+
+-- ---- records that a piece moves
 module _ (start : ℕ) (r : FunctionRecord) where
-  pub own_func : (k : ℕ) → k ≡ 0 → r.slot ≡ (func_of k start r).slot
+  pub own_func : (k : ℕ) → k ≡ 0 → r ≡ func_of k start r
   own_func zero e = refl
   own_func (suc k) e = absurd (omega arith)
 
-  pub moved_func : (k : ℕ) → (k ≡ 0 → ⊥) → start ≡ (func_of k start r).slot
+  pub moved_func : (k : ℕ) → (k ≡ 0 → ⊥) → record { slot = start; kind = r.kind } ≡ func_of k start r
   moved_func zero n = absurd (n refl)
   moved_func (suc k) n = refl
 
-  pub func_kind : (k : ℕ) → r.kind ≡ (func_of k start r).kind
-  func_kind zero = refl
-  func_kind (suc k) = refl
-
-module _ (func_info : List ℕ) (first : ℕ) (shown : List ℕ) (at k start j : ℕ) where
-  abbrev same_func : Bool
-  same_func = same_function_record (func_info_row little shown (at + j)) (func_of k start (func_info_row little func_info (first + j)))
-
-  pub func_missing : whole_rows FuncInfo shown ≤ at + j → func_wrong func_info first shown at k start j ≡ some (reply 42 k j (at + j))
-  unfolding func_wrong
-  func_missing l = ap (λ b. cond (b && same_func) none (some (reply 42 k j (at + j)))) (le-ltb (at + j) (whole_rows FuncInfo shown) l)
-
-  func_there : at + j < whole_rows FuncInfo shown → func_wrong func_info first shown at k start j ≡ cond same_func none (some (reply 42 k j (at + j)))
-  unfolding func_wrong
-  func_there l = ap (λ b. cond (b && same_func) none (some (reply 42 k j (at + j)))) (lt-ltb (at + j) (whole_rows FuncInfo shown) l)
-
-  module _ {same : Bool} (is : same ≡ same_function_record (func_info_row little shown (at + j)) (func_of k start (func_info_row little func_info (first + j)))) where
-    pub func_differs : at + j < whole_rows FuncInfo shown → same ≡ false → func_wrong func_info first shown at k start j ≡ some (reply 42 k j (at + j))
-    func_differs l e = func_there l ∙ ap (λ b. cond b none (some (reply 42 k j (at + j)))) (sym is ∙ e)
-
-    pub func_same : at + j < whole_rows FuncInfo shown → same ≡ true → func_wrong func_info first shown at k start j ≡ none
-    func_same l e = func_there l ∙ ap (λ b. cond b none (some (reply 42 k j (at + j)))) (sym is ∙ e)
-
--- ---- line records
-module _ (a b : LineRecord) where
-  pub line_slots_differ : (a.slot ≡ b.slot → ⊥) → false ≡ same_line_record a b
-  unfolding same_line_record
-  line_slots_differ n = rw (ne_eqb a.slot b.slot n)
-
-  pub line_files_differ : a.slot ≡ b.slot → (a.file ≡ b.file → ⊥) → false ≡ same_line_record a b
-  unfolding same_line_record
-  line_files_differ e n = rw (eq-eqb a.slot b.slot e, ne_eqb a.file b.file n)
-
-  pub line_lines_differ : a.slot ≡ b.slot → a.file ≡ b.file → (a.line ≡ b.line → ⊥) → false ≡ same_line_record a b
-  unfolding same_line_record
-  line_lines_differ e f n = rw (eq-eqb a.slot b.slot e, eq-eqb a.file b.file f, ne_eqb a.line b.line n)
-
-  pub line_columns : a.slot ≡ b.slot → a.file ≡ b.file → a.line ≡ b.line → eqb a.column b.column ≡ same_line_record a b
-  unfolding same_line_record
-  line_columns e f g = rw (eq-eqb a.slot b.slot e, eq-eqb a.file b.file f, eq-eqb a.line b.line g)
-
 module _ (origin start : ℕ) (l : LineRecord) where
-  pub own_line : (k : ℕ) → k ≡ 0 → l.slot ≡ (line_of k origin start l).slot
+  pub own_line : (k : ℕ) → k ≡ 0 → l ≡ line_of k origin start l
   own_line zero e = refl
   own_line (suc k) e = absurd (omega arith)
 
-  pub moved_line : (k : ℕ) → (k ≡ 0 → ⊥) → start + (l.slot - origin) ≡ (line_of k origin start l).slot
+  pub moved_line : (k : ℕ) → (k ≡ 0 → ⊥) → record { slot = start + (l.slot - origin); file = l.file; line = l.line; column = l.column } ≡ line_of k origin start l
   moved_line zero n = absurd (n refl)
   moved_line (suc k) n = refl
-
-  pub line_file : (k : ℕ) → l.file ≡ (line_of k origin start l).file
-  line_file zero = refl
-  line_file (suc k) = refl
-
-  pub line_line : (k : ℕ) → l.line ≡ (line_of k origin start l).line
-  line_line zero = refl
-  line_line (suc k) = refl
-
-  pub line_column : (k : ℕ) → l.column ≡ (line_of k origin start l).column
-  line_column zero = refl
-  line_column (suc k) = refl
 
   -- what moves has room to
   pub moves_down : (k : ℕ) → (k ≡ 0 → ⊥) → Movable k origin start l → origin ≤ l.slot
@@ -107,29 +72,6 @@ module _ (origin start : ℕ) (l : LineRecord) where
   pub moves_up : (k : ℕ) → (k ≡ 0 → ⊥) → Movable k origin start l → start + (l.slot - origin) < 0x1_0000_0000
   moves_up zero n m = absurd (n refl)
   moves_up (suc k) n m = m.1
-
-module _ (line_info : List ℕ) (first : ℕ) (shown : List ℕ) (at k start j : ℕ) where
-  abbrev same_line : ℕ → Bool
-  same_line origin = same_line_record (line_info_row little shown (at + j)) (line_of k origin start (line_info_row little line_info (first + j)))
-
-  abbrev origin₀ : ℕ
-  origin₀ = record_slot little LineInfo line_info first
-
-  pub line_missing : whole_rows LineInfo shown ≤ at + j → line_wrong line_info first shown at k start j ≡ some (reply 43 k j (at + j))
-  unfolding line_wrong
-  line_missing l = ap (λ b. cond (b && same_line origin₀) none (some (reply 43 k j (at + j)))) (le-ltb (at + j) (whole_rows LineInfo shown) l)
-
-  line_there : at + j < whole_rows LineInfo shown → line_wrong line_info first shown at k start j ≡ cond (same_line origin₀) none (some (reply 43 k j (at + j)))
-  unfolding line_wrong
-  line_there l = ap (λ b. cond (b && same_line origin₀) none (some (reply 43 k j (at + j)))) (lt-ltb (at + j) (whole_rows LineInfo shown) l)
-
-  module _ {origin : ℕ} {same : Bool} (o : origin ≡ record_slot little LineInfo line_info first)
-      (is : same ≡ same_line_record (line_info_row little shown (at + j)) (line_of k origin start (line_info_row little line_info (first + j)))) where
-    pub line_differs : at + j < whole_rows LineInfo shown → same ≡ false → line_wrong line_info first shown at k start j ≡ some (reply 43 k j (at + j))
-    line_differs l e = line_there l ∙ ap (λ b. cond b none (some (reply 43 k j (at + j)))) (ap same_line (sym o) ∙ sym is ∙ e)
-
-    pub line_same : at + j < whole_rows LineInfo shown → same ≡ true → line_wrong line_info first shown at k start j ≡ none
-    line_same l e = line_there l ∙ ap (λ b. cond b none (some (reply 43 k j (at + j)))) (ap same_line (sym o) ∙ sym is ∙ e)
 
 -- ---- 12
 module _ (row : ℕ) where
@@ -156,19 +98,11 @@ module _ (tables : Tables) (s : Shown) (f l : ℕ) where
       ap (λ n. decided (leb n f) (leb (length (claim_of little s).lines) l)) (length_run (func_info_row little s.func_info) 0 (whole_rows FuncInfo s.func_info))
       ∙ ap (λ n. decided (leb (whole_rows FuncInfo s.func_info) f) (leb n l)) (length_run (line_info_row little s.line_info) 0 (whole_rows LineInfo s.line_info))
 
-  pub funcs_over : f < whole_rows FuncInfo s.func_info → some (reply 44 (table_number FuncInfo) f 0) ≡ over_wrong tables (claim_of little s) f l
+  -- function records first, then line records
+  pub over_parts : over_wrong tables (claim_of little s) f l ≡ or_else (over FuncInfo s.func_info f) (over LineInfo s.line_info l)
   unfolding decided
-  funcs_over h = sym (over_is ∙ ap (λ b. decided b (leb (whole_rows LineInfo s.line_info) l)) (lt-leb (whole_rows FuncInfo s.func_info) f h))
-
-  pub lines_over : whole_rows FuncInfo s.func_info ≤ f → l < whole_rows LineInfo s.line_info
-      → some (reply 44 (table_number LineInfo) l 0) ≡ over_wrong tables (claim_of little s) f l
-  unfolding decided
-  lines_over g h =
-      sym (over_is ∙ ap (λ b. decided b (leb (whole_rows LineInfo s.line_info) l)) (le-leb (whole_rows FuncInfo s.func_info) f g)
-      ∙ ap (decided true) (lt-leb (whole_rows LineInfo s.line_info) l h))
-
-  pub none_over : whole_rows FuncInfo s.func_info ≤ f → whole_rows LineInfo s.line_info ≤ l → none ≡ over_wrong tables (claim_of little s) f l
-  unfolding decided
-  none_over g h =
-      sym (over_is ∙ ap (λ b. decided b (leb (whole_rows LineInfo s.line_info) l)) (le-leb (whole_rows FuncInfo s.func_info) f g)
-      ∙ ap (decided true) (le-leb (whole_rows LineInfo s.line_info) l h))
+  over_parts = over_is ∙ go (leb (whole_rows FuncInfo s.func_info) f) (over LineInfo s.line_info l)
+    where
+      go : (b : Bool) (x : Option Reply) → cond b x (some (reply 44 (table_number FuncInfo) f 0)) ≡ or_else (cond b none (some (reply 44 (table_number FuncInfo) f 0))) x
+      go true x = refl
+      go false x = refl

@@ -1,6 +1,6 @@
 -- The sizes of what is shown, one after another.
 -- Assumes nothing.
-use mathlib.Core.Path.{◌≡◌, refl, ap, ◌∙◌}
+use mathlib.Core.Path.{◌≡◌, refl, sym, ap, ◌∙◌}
 use mathlib.Core.Bool.{Bool, true, false, cond}
 use mathlib.Core.Option.{Option, none, some}
 use mathlib.Core.List.{List}
@@ -14,38 +14,60 @@ use Rattle.rules.specs.Answers.{Reply, reply}
 use Rattle.rules.specs.Rows.{row_size, most_image_slots, most_image_functions, most_image_lines, table_number, or_else}
 use Rattle.rules.specs.Pieces.{piece_size}
 use Rattle.rules.specs.Examine.{Shown, list_number, size_wrong, sizes_wrong}
-use Rattle.examine.proofs.Firsts.{neither}
+use Rattle.examine.proofs.Firsts.{neither, or_first, or_second}
 
-module _ (number size most : ℕ) (t : List ℕ) (later : Option Reply) where
-  pub too_long : size * most < length t → some (reply 33 number 0 0) ≡ or_else (size_wrong number size most t) later
+module _ (number size most : ℕ) (t : List ℕ) where
+  pub too_long : size * most < length t → some (reply 33 number 0 0) ≡ size_wrong number size most t
   unfolding size_wrong
   too_long l = rw (lt-leb (length t) (size * most) l)
 
-  pub partial : length t ≤ size * most → (length t % size ≡ 0 → ⊥) → some (reply 34 number (length t / size) 0) ≡ or_else (size_wrong number size most t) later
+  pub partial : length t ≤ size * most → (length t % size ≡ 0 → ⊥) → some (reply 34 number (length t / size) 0) ≡ size_wrong number size most t
   unfolding size_wrong
   partial l n = rw (le-leb (length t) (size * most) l, ne_eqb (length t % size) 0 n)
 
-  pub fits : length t ≤ size * most → length t % size ≡ 0 → later ≡ or_else (size_wrong number size most t) later
+  pub fits : length t ≤ size * most → length t % size ≡ 0 → none ≡ size_wrong number size most t
   unfolding size_wrong
   fits l e = rw (le-leb (length t) (size * most) l, eq-eqb (length t % size) 0 e)
 
-or_none_lem : (x : Option Reply) → or_else x none ≡ x
-or_none_lem none = refl
-or_none_lem (some r) = refl
+-- one after another, and the first that is wrong stands
+module _ (s : Shown) where
+  abbrev image_part : Option Reply
+  image_part = size_wrong (table_number Instructions) (row_size Instructions) most_image_slots s.image
 
--- the last first, and the first that is wrong stands
-module _ (s : Shown) {image funcs lines pieces : ℕ} (i : image ≡ table_number Instructions) (f : funcs ≡ table_number FuncInfo) (l : lines ≡ table_number LineInfo)
-    (p : pieces ≡ list_number) where
-  pub sizes_are : {a b c d : Option Reply} → a ≡ or_else (size_wrong image (row_size Instructions) most_image_slots s.image) b
-      → b ≡ or_else (size_wrong funcs (row_size FuncInfo) most_image_functions s.func_info) c
-      → c ≡ or_else (size_wrong lines (row_size LineInfo) most_image_lines s.line_info) d
-      → d ≡ or_else (size_wrong pieces piece_size most_image_slots s.pieces) none → a ≡ sizes_wrong s
+  abbrev funcs_part : Option Reply
+  funcs_part = size_wrong (table_number FuncInfo) (row_size FuncInfo) most_image_functions s.func_info
+
+  abbrev lines_part : Option Reply
+  lines_part = size_wrong (table_number LineInfo) (row_size LineInfo) most_image_lines s.line_info
+
+  abbrev list_part : Option Reply
+  list_part = size_wrong list_number piece_size most_image_slots s.pieces
+
+  parts : sizes_wrong s ≡ or_else image_part (or_else funcs_part (or_else lines_part list_part))
   unfolding sizes_wrong
-  sizes_are ea eb ec ed =
-      ea ∙ ap (λ x. or_else (size_wrong image (row_size Instructions) most_image_slots s.image) x)
-      (eb ∙ ap (λ x. or_else (size_wrong funcs (row_size FuncInfo) most_image_functions s.func_info) x)
-      (ec ∙ ap (λ x. or_else (size_wrong lines (row_size LineInfo) most_image_lines s.line_info) x) (ed ∙ or_none_lem (size_wrong pieces piece_size most_image_slots s.pieces))))
-      ∙ rw (i, f, l, p) refl
+  parts = refl
+
+  pub image_bad : {r : Reply} → size_wrong (table_number Instructions) (row_size Instructions) most_image_slots s.image ≡ some r → sizes_wrong s ≡ some r
+  image_bad e = parts ∙ or_first (or_else funcs_part (or_else lines_part list_part)) e
+
+  module _ (image : size_wrong (table_number Instructions) (row_size Instructions) most_image_slots s.image ≡ none) where
+    image_done : sizes_wrong s ≡ or_else funcs_part (or_else lines_part list_part)
+    image_done = parts ∙ or_second (or_else funcs_part (or_else lines_part list_part)) image
+
+    pub funcs_bad : {r : Reply} → size_wrong (table_number FuncInfo) (row_size FuncInfo) most_image_functions s.func_info ≡ some r → sizes_wrong s ≡ some r
+    funcs_bad e = image_done ∙ or_first (or_else lines_part list_part) e
+
+    module _ (funcs : size_wrong (table_number FuncInfo) (row_size FuncInfo) most_image_functions s.func_info ≡ none) where
+      pub lines_bad : {r : Reply} → size_wrong (table_number LineInfo) (row_size LineInfo) most_image_lines s.line_info ≡ some r → sizes_wrong s ≡ some r
+      lines_bad e = image_done ∙ or_second (or_else lines_part list_part) funcs ∙ or_first list_part e
+
+      pub list_said : size_wrong (table_number LineInfo) (row_size LineInfo) most_image_lines s.line_info ≡ none
+          → sizes_wrong s ≡ size_wrong list_number piece_size most_image_slots s.pieces
+      list_said e = image_done ∙ or_second (or_else lines_part list_part) funcs ∙ or_second list_part e
+
+-- a size's judgement, where the code holds its number
+pub numbered : {x : Option Reply} {n m : ℕ} (size most : ℕ) (t : List ℕ) → x ≡ size_wrong n size most t → n ≡ m → size_wrong m size most t ≡ x
+numbered size most t e f = sym (e ∙ ap (λ k. size_wrong k size most t) f)
 
 -- ---- and back: what passing says of the lengths
 pub record Whole (size most : ℕ) (t : List ℕ) : Type 0 where

@@ -3,8 +3,9 @@
 use Rattle.std.specs.Prelude.{◌≡◌, Bool, false, not, cond, List, ℕ, ◌+◌, ◌*◌, ◌≤◌, ◌<◌, eqb, length}
 use Rattle.std.proofs.Math.Option.{Option, none, some}
 use Rattle.rules.specs.declared.Table.TheVariants.{Functions}
-use Rattle.rules.specs.declared.Found.{Found}
-use Rattle.rules.specs.declared.Found.TheVariants.{At, Nothing}
+use Rattle.std.specs.Prelude as prelude
+use Rattle.std.specs.Prelude.{Some, None, Ok, Err}
+use Rattle.rules.specs.declared.Refusal.{Refusal}
 use Rattle.rules.specs.Object.{Insn}
 use Rattle.rules.specs.Bytes.{slot_size}
 use Rattle.rules.specs.Faithful.{Piece}
@@ -12,14 +13,13 @@ use Rattle.rules.specs.Answers.{Reply, reply, refused_reply}
 use Rattle.rules.specs.Rows.{whole_rows, most_image_slots, summed, Offered, function_slots}
 use Rattle.rules.specs.Lookups.{Checked}
 use Rattle.rules.specs.Examine.{same_form, same_head, same_slot, target_of, starts_at}
-use Rattle.resolve.specs.declared.Meaning.{Meaning}
-use Rattle.resolve.specs.declared.Meaning.TheVariants.{Copied, Points, Refused}
+use Rattle.resolve.specs.declared.Pointer.{Pointer}
 use Rattle.pieces.specs.Tiling.{StartsRise}
 
 -- a slot without a relocation whose opcode is not a call's
-abbrev pub is_plain : Found → Insn → Bool
-is_plain Nothing i = not (eqb i.opcode 0x85)
-is_plain (At k) i = false
+abbrev pub is_plain : (prelude.Option ℕ) → Insn → Bool
+is_plain None i = not (eqb i.opcode 0x85)
+is_plain (Some k) i = false
 
 -- slot i of some bytes, and slot j of others
 pub record Slots (a : List ℕ) (i : ℕ) (b : List ℕ) (j : ℕ) : Type 0 where
@@ -32,10 +32,10 @@ pub record Compares (image : List ℕ) (here : ℕ) (instructions : List ℕ) (a
   pub rise : StartsRise pieces
 
 -- a callee's row is a number of 32 bits
-abbrev pub Callable : Meaning → Type 0
-Callable Copied = Unit {0}
-Callable (Points callee refers) = callee < 0x1_0000_0000
-Callable (Refused r) = Unit {0}
+abbrev pub Callable : prelude.Result (prelude.Option Pointer) Refusal → Type 0
+Callable (Ok None) = Unit {0}
+Callable (Ok (Some p)) = p.callee < 0x1_0000_0000
+Callable (Err r) = Unit {0}
 
 -- a row whose first slot in table 6 is `first`, and a piece of it that starts there, inside the image
 pub record Visits (o : Offered) (image pieces : List ℕ) (row start first : ℕ) : Type 0 where
@@ -58,7 +58,7 @@ module _ (pieces : List Piece) (k slot here : ℕ) where
   reference_wrong source i callee =
       cond (same_form i source) (cond (eqb i.source 4) (target_wrong i callee) (some (reply 40 k slot callee))) (some (reply 39 k slot here))
 
-  abbrev pub meant_wrong : Insn → Insn → Meaning → Option Reply
-  meant_wrong source i Copied = cond (same_slot i source) none (some (reply 39 k slot here))
-  meant_wrong source i (Points callee refers) = cond refers (reference_wrong source i callee) (call_wrong source i callee)
-  meant_wrong source i (Refused r) = some (refused_reply r)
+  abbrev pub meant_wrong : Insn → Insn → prelude.Result (prelude.Option Pointer) Refusal → Option Reply
+  meant_wrong source i (Ok None) = cond (same_slot i source) none (some (reply 39 k slot here))
+  meant_wrong source i (Ok (Some p)) = cond p.reference (reference_wrong source i p.callee) (call_wrong source i p.callee)
+  meant_wrong source i (Err r) = some (refused_reply r)

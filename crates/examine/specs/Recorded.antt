@@ -1,25 +1,44 @@
 -- A record of an image against its source record, over the bytes of tables 7 and 8.
 -- Assumes nothing.
-use Rattle.std.specs.Prelude.{cond, ◌&&◌, List, ℕ, zero, suc, ◌+◌, ◌-◌, ◌*◌, ◌≤◌, ◌<◌, ltb, length}
+use Rattle.std.specs.Prelude.{◌≡◌, Bool, cond, ◌&&◌, List, ℕ, zero, suc, ◌+◌, ◌-◌, ◌*◌, ◌≤◌, ◌<◌, leb, ltb, length}
 use Rattle.std.proofs.Math.Option.{Option, none, some}
+use Rattle.rules.specs.declared.Table.{Table}
 use Rattle.rules.specs.declared.Table.TheVariants.{Functions, FuncInfo, LineInfo}
 use Rattle.rules.specs.Bytes.{little}
 use Rattle.rules.specs.Answers.{Reply, reply}
-use Rattle.rules.specs.Tables.{FunctionRecord, LineRecord}
+use Rattle.rules.specs.Tables.{FunctionRecord}
+use Rattle.rules.specs.Tables as records
 use Rattle.rules.specs.Records.{started_at, rebased}
-use Rattle.rules.specs.Rows.{row_size, most_rows, most_image_functions, most_image_lines, whole_rows, or_else, record_slot, func_info_row, line_info_row, function_slots, function_func_info, function_line_info}
+use Rattle.rules.specs.Rows.{row_size, most_rows, most_image_functions, most_image_lines, whole_rows, table_number, or_else, record_slot, func_info_row, line_info_row, function_slots, function_func_info, function_line_info}
 use Rattle.rules.specs.Examine.{same_function_record, same_line_record, first_wrong}
 use Rattle.merge.specs.declared.Used.{Used}
+use Rattle.examine.specs.declared.records.FuncRecord.{FuncRecord}
+use Rattle.examine.specs.declared.records.LineRecord.{LineRecord}
 use Rattle.merge.specs.Merge.{PartBegins, Lined, stray_in}
+
+-- a record as code has it
+abbrev pub func_read : FuncRecord → FunctionRecord
+func_read r = record { slot = r.slot; kind = r.kind }
+
+abbrev pub line_read : LineRecord → records.LineRecord
+line_read r = record { slot = r.slot; file = r.file; line = r.line; column = r.column }
 
 -- a record as piece k should have it, "the first piece's unchanged, later ones as appended"
 abbrev pub func_of : ℕ → ℕ → FunctionRecord → FunctionRecord
 func_of zero start r = r
 func_of (suc k) start r = started_at start r
 
-abbrev pub line_of : ℕ → ℕ → ℕ → LineRecord → LineRecord
+abbrev pub line_of : ℕ → ℕ → ℕ → records.LineRecord → records.LineRecord
 line_of zero origin start l = l
 line_of (suc k) origin start l = rebased origin start l
+
+-- record j of piece k, by a test that says whether it is record `at` + j of n
+abbrev pub record_wrong : ℕ → ℕ → ℕ → ℕ → (ℕ → Bool) → ℕ → Option Reply
+record_wrong number k n at test j = cond (ltb (at + j) n && test j) none (some (reply number k j (at + j)))
+
+-- a test that answers as some code does, of those records
+abbrev pub Decides : (ℕ → ℕ → Bool → Type 0) → ℕ → ℕ → ℕ → (ℕ → Bool) → Type 0
+Decides answers count n at test = (j : ℕ) → j < count → at + j < n → (b : Bool) → answers j (at + j) b → b ≡ test j
 
 -- record j of piece k, of those from `first` on in table 7 or 8, should be record `at` + j of the image
 unfoldable pub func_wrong : List ℕ → ℕ → List ℕ → ℕ → ℕ → ℕ → ℕ → Option Reply
@@ -44,9 +63,13 @@ stray_of zero row found = none
 stray_of (suc k) row found = stray_reply row found
 
 -- a record that can be moved: the difference is one, and the sum a u32
-abbrev pub Movable : ℕ → ℕ → ℕ → LineRecord → Type 0
+abbrev pub Movable : ℕ → ℕ → ℕ → records.LineRecord → Type 0
 Movable zero origin start l = Unit {0}
 Movable (suc k) origin start l = (origin ≤ l.slot) × (start + (l.slot - origin) < 0x1_0000_0000)
+
+-- 44, of one table: more records than belong to the pieces
+abbrev pub over : Table → List ℕ → ℕ → Option Reply
+over table t most = cond (leb (whole_rows table t) most) none (some (reply 44 (table_number table) most 0))
 
 -- records inside their table, and a place in the image
 pub record Funcs (func_info : List ℕ) (first count at : ℕ) : Type 0 where

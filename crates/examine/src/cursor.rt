@@ -1,41 +1,70 @@
 // A slot's relocation, found by a cursor that rises with the slots.
 ghost use Rattle.std.specs.Prelude.{◌≡◌, ◌≤◌};
 ghost use Rattle.rules.specs.declared.Table.TheVariants.{Relocations};
-ghost use Rattle.rules.specs.Rows.{whole_rows};
 ghost use Rattle.rules.specs.Lookups.{Sound, found_of, relocation_with, relocations_before};
 
-use rows::find::{is_relocation, is_relocation_before};
+use rows::find::{is_relocation, is_relocation_before, relocations_before};
+use rules::ByteOffset;
 use rules::limits::RELOCATION_SIZE;
-use rules::{ByteOffset, Found};
 
-// The cursor moved on to the first row that is not before the place.
-pub fn move_cursor(relocations: &[u8], cursor: usize, home: u32, at: ByteOffset) -> usize
-    requires { Sound Relocations relocations.now × (cursor ≤ relocations_before relocations.now home at.0) }
-    ensures { (result ≡ relocations_before relocations.now home at.0)
-        × (result ≤ whole_rows Relocations relocations.now) }
-{
-    let n = relocations.len() / RELOCATION_SIZE;
-    let mut k = cursor;
-    while k < n {
-        if !is_relocation_before(relocations, k, home, at) {
-            return k;
-        }
-        k += 1;
-    }
-    k
+// At the first relocation that is not before a place of a section.
+#[derive(Clone, Copy)]
+pub struct Cursor<'a> {
+    pub relocations: &'a [u8],
+    pub home: u32,
+    pub offset: ByteOffset,
+    pub row: usize,
+    pub ghost stands: { row ≡ relocations_before relocations.now home offset.0 },
 }
 
-// Where the cursor stands, if the row is at the place.
-pub fn relocation_at(relocations: &[u8], cursor: usize, home: u32, at: ByteOffset) -> Found
-    requires { Sound Relocations relocations.now
-        × ((cursor ≡ relocations_before relocations.now home at.0) × (cursor ≤ whole_rows Relocations relocations.now)) }
-    ensures { result ≡ found_of (relocation_with relocations.now home at.0) }
-{
-    if cursor >= relocations.len() / RELOCATION_SIZE {
-        return Found::Nothing;
+impl<'a> Cursor<'a> {
+    pub fn new(relocations: &'a [u8], home: u32, offset: ByteOffset) -> Cursor<'a>
+        requires { Sound Relocations relocations.now }
+        ensures table { result.relocations.now ≡ relocations.now }
+        ensures place { (result.home ≡ home) × (result.offset.0 ≡ offset.0) }
+    {
+        let row = relocations_before(relocations, home, offset);
+        Cursor {
+            relocations,
+            home,
+            offset,
+            row,
+        }
     }
-    if is_relocation(relocations, cursor, home, at) {
-        return Found::At(cursor);
+
+    // Moved on to a later place.
+    pub fn moved_to(self, offset: ByteOffset) -> Cursor<'a>
+        requires { Sound Relocations self.relocations.now × (self.offset.0 ≤ offset.0) }
+        ensures table { result.relocations.now ≡ self.entry.relocations.now }
+        ensures place { (result.home ≡ self.entry.home) × (result.offset.0 ≡ offset.0) }
+    {
+        let Cursor {
+            relocations,
+            home,
+            row: from,
+            ..
+        } = self;
+        let n = relocations.len() / RELOCATION_SIZE;
+        let row = (from..n)
+            .find(|k| !is_relocation_before(relocations, *k, home, offset))
+            .unwrap_or(n);
+        Cursor {
+            relocations,
+            home,
+            offset,
+            row,
+        }
     }
-    Found::Nothing
+
+    // The relocation at the place: where it stands, or none.
+    pub fn relocation(self) -> Option<usize>
+        requires { Sound Relocations self.relocations.now }
+        ensures { result ≡ found_of (relocation_with self.entry.relocations.now self.entry.home self.entry.offset.0) }
+    {
+        let n = self.relocations.len() / RELOCATION_SIZE;
+        if self.row < n && is_relocation(self.relocations, self.row, self.home, self.offset) {
+            return Some(self.row);
+        }
+        None
+    }
 }

@@ -1,242 +1,222 @@
 // The records of a piece, each against its source record (42, 43, and the link's own 12), and those that are over (44).
-ghost use Rattle.std.specs.Prelude.{◌≡◌, [], ◌+◌, ◌*◌, ◌≤◌, length};
+ghost use Rattle.std.specs.Prelude.{◌≡◌, Bool, ℕ, [], ◌+◌, ◌*◌, ◌≤◌, ◌<◌, length};
 ghost use Rattle.rules.specs.declared.Table.TheVariants.{FuncInfo, LineInfo};
 ghost use Rattle.rules.specs.Bytes.{little};
-ghost use Rattle.rules.specs.Answers.{refusal_in};
+ghost use Rattle.rules.specs.Answers.{number_of, refusal_in};
 ghost use Rattle.rules.specs.Rows.{row_size, link_offer, tables_of, func_info_row, line_info_row};
 ghost use Rattle.merge.specs.Merge.{stray_in};
-ghost use Rattle.rules.specs.Examine.{same_function_record, same_line_record, first_wrong, shown, claim_of, over_wrong};
-ghost use Rattle.examine.specs.Recorded.{func_of, line_of, func_wrong, line_wrong, stray_of, records_wrong, Movable, Funcs, Lines, Strays, Recorded};
+ghost use Rattle.rules.specs.Examine.{first_wrong, shown, claim_of, over_wrong};
+ghost use Rattle.examine.specs.Recorded.{func_read, line_read, func_of, line_of, record_wrong, Decides, func_wrong, line_wrong, stray_of, records_wrong, over, Movable, Funcs, Lines, Strays, Recorded};
 
+use crate::piece::Piece;
 use answers::{finding, refusal};
-use merge::{Used, stray_line};
+use merge::stray_line;
 use rows::fields::{
     func_info_slot, func_info_type, function_func_info, function_line_info, line_info_column,
     line_info_file, line_info_line, line_info_slot,
 };
 use rules::limits::{FUNC_INFO_SIZE, LINE_INFO_SIZE};
-use rules::{Cause, Found, Judgement, Slot, Table};
-use tables::limits::table_number;
+use rules::{Cause, Program, Refusal, Slot, Table};
 
-// The slot that function record i should have in a piece: the first piece's is its own.
-fn func_slot(func_info: &[u8], i: usize, k: u32, start: Slot) -> u32
-    requires { row_size FuncInfo * i + row_size FuncInfo ≤ length func_info.now }
-    ensures { result ≡ (func_of k start.0 (func_info_row little func_info.now i)).slot }
-{
-    if k == 0 { // the root's rule
-        return func_info_slot(func_info, i);
-    }
-    start.0
+// A record of table 7.
+#[derive(Clone, Copy, PartialEq, Eq)]
+struct FuncRecord {
+    slot: u32,
+    kind: u32,
 }
 
-// Record i, as piece k has it, against record j of the image.
-fn same_func(func_info: &[u8], i: usize, shown: &[u8], j: usize, k: u32, start: Slot) -> bool
-    requires { (row_size FuncInfo * i + row_size FuncInfo ≤ length func_info.now)
-        × (row_size FuncInfo * j + row_size FuncInfo ≤ length shown.now) }
-    ensures { result ≡ same_function_record (func_info_row little shown.now j) (func_of k start.0 (func_info_row little func_info.now i)) }
-{
-    if func_info_slot(shown, j) != func_slot(func_info, i, k, start) {
-        return false;
+impl FuncRecord {
+    fn read(t: &[u8], i: usize) -> FuncRecord
+        requires { row_size FuncInfo * i + row_size FuncInfo ≤ length t.now }
+        ensures { func_read result ≡ func_info_row little t.now i }
+    {
+        FuncRecord {
+            slot: func_info_slot(t, i),
+            kind: func_info_type(t, i),
+        }
     }
-    func_info_type(shown, j) == func_info_type(func_info, i)
+
+    // As piece k should have it.
+    fn placed(self, k: u32, start: Slot) -> FuncRecord
+        ensures { func_read result ≡ func_of k start.0 (func_read self) }
+    {
+        if k == 0 { // the root's rule
+            return self;
+        }
+        FuncRecord {
+            slot: start.0,
+            ..self
+        }
+    }
 }
 
-// Piece k's function records, `count` from `first` on in table 7, should stand from `at` on in the image.
-fn check_funcs(
-    func_info: &[u8],
-    first: u32,
-    count: u32,
-    shown: &[u8],
-    at: u32,
+// A record of table 8.
+#[derive(Clone, Copy, PartialEq, Eq)]
+struct LineRecord {
+    slot: u32,
+    file: u32,
+    line: u32,
+    column: u32,
+}
+
+impl LineRecord {
+    fn read(t: &[u8], i: usize) -> LineRecord
+        requires { row_size LineInfo * i + row_size LineInfo ≤ length t.now }
+        ensures { line_read result ≡ line_info_row little t.now i }
+    {
+        LineRecord {
+            slot: line_info_slot(t, i),
+            file: line_info_file(t, i),
+            line: line_info_line(t, i),
+            column: line_info_column(t, i),
+        }
+    }
+
+    // As piece k should have it, whose first line record has the slot `origin` in table 8.
+    fn placed(self, k: u32, origin: u32, start: Slot) -> LineRecord
+        requires { Movable k origin start.0 (line_read self) }
+        ensures { line_read result ≡ line_of k origin start.0 (line_read self) }
+    {
+        if k == 0 {
+            return self;
+        }
+        LineRecord {
+            slot: start.0 + (self.slot - origin),
+            ..self
+        }
+    }
+}
+
+// Records of piece k, `count` of them, which should stand from `at` on among n of the image: the first that does not. `same` says whether
+// record j of the piece is that record of the image.
+fn check_run<F: Fn(u32, u32) -> bool>(
+    cause: Cause,
     k: u32,
-    start: Slot,
-) -> Judgement
-    requires { Funcs func_info.now first count at }
-    ensures { refusal_in result ≡ first_wrong (func_wrong func_info.now first shown.now at k start.0) 0 count }
+    n: usize,
+    at: u32,
+    count: u32,
+    same: F,
+) -> Result<(), Refusal>
+    requires low { at + count < 0x1_0000_0000 }
+    requires asks { (j : ℕ) → j < count → at + j < n → F.pre same j (at + j) }
+    ensures { (test : ℕ → Bool) → Decides (λ j to b. F.post same j to b) count n at test
+        → refusal_in result ≡ first_wrong (record_wrong (number_of cause) k n at test) 0 count }
 {
-    let n = shown.len() / FUNC_INFO_SIZE;
-    let mut j: u32 = 0;
-    while j < count {
+    for j in 0..count {
         let to = at + j;
-        if to as usize >= n {
-            return Judgement::Refused(finding(Cause::FuncInfoDiffers, k, j, to));
+        if to as usize >= n || !same(j, to) {
+            return Err(finding(cause, k, j, to));
         }
-        let from = first + j;
-        if !same_func(func_info, from as usize, shown, to as usize, k, start) {
-            return Judgement::Refused(finding(Cause::FuncInfoDiffers, k, j, to));
-        }
-        j += 1;
     }
-    Judgement::Passes
+    Ok(())
 }
 
-// The slot that line record i should have in a piece, whose first line record has the slot `origin` in table 8.
-fn line_slot(line_info: &[u8], i: usize, k: u32, origin: u32, start: Slot) -> u32
-    requires { (row_size LineInfo * i + row_size LineInfo ≤ length line_info.now)
-        × Movable k origin start.0 (line_info_row little line_info.now i) }
-    ensures { result ≡ (line_of k origin start.0 (line_info_row little line_info.now i)).slot }
+// A piece's function records, `count` of table 7.
+fn check_funcs(func_info: &[u8], shown: &[u8], piece: Piece, count: u32) -> Result<(), Refusal>
+    requires { Funcs func_info.now piece.part.funcs count piece.funcs }
+    ensures { refusal_in result
+        ≡ first_wrong (func_wrong func_info.now piece.part.funcs shown.now piece.funcs piece.k piece.start.0) 0 count }
 {
-    let slot = line_info_slot(line_info, i);
-    if k == 0 {
-        return slot;
-    }
-    let from = start.0;
-    from + (slot - origin)
+    let Piece {
+        k,
+        start,
+        part,
+        funcs,
+        ..
+    } = piece;
+    let n = shown.len() / FUNC_INFO_SIZE;
+    check_run(Cause::FuncInfoDiffers, k, n, funcs, count, |j, to| {
+        let own = FuncRecord::read(func_info, (part.funcs + j) as usize);
+        FuncRecord::read(shown, to as usize) == own.placed(k, start)
+    })
 }
 
-fn same_line(
-    line_info: &[u8],
-    i: usize,
-    shown: &[u8],
-    j: usize,
-    k: u32,
-    origin: u32,
-    start: Slot,
-) -> bool
-    requires { (row_size LineInfo * i + row_size LineInfo ≤ length line_info.now)
-        × ((row_size LineInfo * j + row_size LineInfo ≤ length shown.now)
-        × Movable k origin start.0 (line_info_row little line_info.now i)) }
-    ensures { result ≡ same_line_record (line_info_row little shown.now j) (line_of k origin start.0 (line_info_row little line_info.now i)) }
-{
-    if line_info_slot(shown, j) != line_slot(line_info, i, k, origin, start) {
-        return false;
-    }
-    if line_info_file(shown, j) != line_info_file(line_info, i) {
-        return false;
-    }
-    if line_info_line(shown, j) != line_info_line(line_info, i) {
-        return false;
-    }
-    line_info_column(shown, j) == line_info_column(line_info, i)
-}
-
-// Piece k's line records, `count` from `first` on in table 8, should stand from `at` on in the image.
-fn check_lines(
-    line_info: &[u8],
-    first: u32,
-    count: u32,
-    shown: &[u8],
-    at: u32,
-    k: u32,
-    start: Slot,
-) -> Judgement
-    requires { Lines line_info.now first count at k start.0 }
-    ensures { refusal_in result ≡ first_wrong (line_wrong line_info.now first shown.now at k start.0) 0 count }
+// Its line records, `count` of table 8.
+fn check_lines(line_info: &[u8], shown: &[u8], piece: Piece, count: u32) -> Result<(), Refusal>
+    requires { Lines line_info.now piece.part.lines count piece.lines piece.k piece.start.0 }
+    ensures { refusal_in result
+        ≡ first_wrong (line_wrong line_info.now piece.part.lines shown.now piece.lines piece.k piece.start.0) 0 count }
 {
     if count == 0 {
-        return Judgement::Passes;
+        return Ok(());
     }
+    let Piece {
+        k,
+        start,
+        part,
+        lines,
+        ..
+    } = piece;
+    let origin = line_info_slot(line_info, part.lines as usize);
     let n = shown.len() / LINE_INFO_SIZE;
-    let origin = line_info_slot(line_info, first as usize);
-    let mut j: u32 = 0;
-    while j < count {
-        let to = at + j;
-        if to as usize >= n {
-            return Judgement::Refused(finding(Cause::LineInfoDiffers, k, j, to));
-        }
-        let from = first + j;
-        if !same_line(
-            line_info,
-            from as usize,
-            shown,
-            to as usize,
-            k,
-            origin,
-            start,
-        ) {
-            return Judgement::Refused(finding(Cause::LineInfoDiffers, k, j, to));
-        }
-        j += 1;
-    }
-    Judgement::Passes
+    check_run(Cause::LineInfoDiffers, k, n, lines, count, |j, to| {
+        let own = LineRecord::read(line_info, (part.lines + j) as usize);
+        LineRecord::read(shown, to as usize) == own.placed(k, origin, start)
+    })
 }
 
 // The link's own 12, for every piece but the first.
-fn check_stray(functions: &[u8], line_info: &[u8], row: usize, first: u32, k: u32) -> Judgement
+fn check_stray(
+    functions: &[u8],
+    line_info: &[u8],
+    row: usize,
+    first: u32,
+    k: u32,
+) -> Result<(), Refusal>
     requires { Strays functions.now line_info.now row first }
     ensures { refusal_in result ≡ stray_of k row (stray_in functions.now line_info.now row) }
 {
     if k == 0 {
-        return Judgement::Passes;
+        return Ok(());
     }
-    let found = stray_line(functions, line_info, row, first);
-    if let Found::At(j) = found {
-        return Judgement::Refused(refusal(Cause::LineOutside, row as u32, j as u32));
+    match stray_line(functions, line_info, row, first) {
+        Some(j) => Err(refusal(Cause::LineOutside, row as u32, j as u32)),
+        None => Ok(()),
     }
-    Judgement::Passes
 }
 
-// Piece k, a copy of `row` that starts there: its records should stand from `funcs` and from `lines` on in the image.
+// The records of a piece.
 pub fn check_records(
     functions: &[u8],
-    func_info: &[u8],
-    line_info: &[u8],
-    image_func_info: &[u8],
-    image_line_info: &[u8],
-    k: u32,
-    row: usize,
-    start: Slot,
-    part: Used,
-    funcs: u32,
-    lines: u32,
-) -> Judgement
-    requires { Recorded functions.now func_info.now line_info.now row start.0 part funcs lines }
-    ensures { refusal_in result ≡ records_wrong functions.now func_info.now line_info.now image_func_info.now image_line_info.now
-        k row start.0 part funcs lines }
+    program: Program,
+    image: Program,
+    piece: Piece,
+) -> Result<(), Refusal>
+    requires { Recorded functions.now program.func_info.now program.line_info.now piece.row piece.start.0 piece.part piece.funcs piece.lines }
+    ensures { refusal_in result
+        ≡ records_wrong functions.now program.entry.func_info.now program.entry.line_info.now image.entry.func_info.now image.entry.line_info.now
+        piece.k piece.row piece.start.0 piece.part piece.funcs piece.lines }
 {
-    let judged = check_funcs(
-        func_info,
-        part.funcs,
-        function_func_info(functions, row),
-        image_func_info,
-        funcs,
-        k,
-        start,
-    );
-    if let Judgement::Refused(why) = judged {
-        return Judgement::Refused(why);
+    let funcs = function_func_info(functions, piece.row);
+    check_funcs(program.func_info, image.func_info, piece, funcs)?;
+    check_stray(
+        functions,
+        program.line_info,
+        piece.row,
+        piece.part.lines,
+        piece.k,
+    )?;
+    let lines = function_line_info(functions, piece.row);
+    check_lines(program.line_info, image.line_info, piece, lines)
+}
+
+fn check_most(table: Table, t: &[u8], most: u32) -> Result<(), Refusal>
+    ensures { refusal_in result ≡ over table t.now most }
+{
+    if t.len() / table.row_size() > most as usize {
+        return Err(refusal(Cause::RecordsOver, table.number(), most));
     }
-    let strays = check_stray(functions, line_info, row, part.lines, k);
-    if let Judgement::Refused(why) = strays {
-        return Judgement::Refused(why);
-    }
-    check_lines(
-        line_info,
-        part.lines,
-        function_line_info(functions, row),
-        image_line_info,
-        lines,
-        k,
-        start,
-    )
+    Ok(())
 }
 
 // So many records belong to the pieces.
-pub fn check_over(
-    image_func_info: &[u8],
-    image_line_info: &[u8],
-    funcs: u32,
-    lines: u32,
-) -> Judgement
+pub fn check_over(image: Program, funcs: u32, lines: u32) -> Result<(), Refusal>
     ensures { refusal_in result ≡ over_wrong
         (tables_of little (link_offer [] [] [] [] [] [] []))
-        (claim_of little (shown [] image_func_info.now image_line_info.now []))
+        (claim_of little (shown [] image.entry.func_info.now image.entry.line_info.now []))
         funcs
         lines }
 {
-    if image_func_info.len() / FUNC_INFO_SIZE > funcs as usize {
-        return Judgement::Refused(refusal(
-            Cause::RecordsOver,
-            table_number(Table::FuncInfo),
-            funcs,
-        ));
-    }
-    if image_line_info.len() / LINE_INFO_SIZE > lines as usize {
-        return Judgement::Refused(refusal(
-            Cause::RecordsOver,
-            table_number(Table::LineInfo),
-            lines,
-        ));
-    }
-    Judgement::Passes
+    check_most(Table::FuncInfo, image.func_info, funcs)?;
+    check_most(Table::LineInfo, image.line_info, lines)
 }

@@ -1,11 +1,12 @@
 // The slots of a piece, each against its source slot (39 to 41, and what the link refuses).
 ghost use Rattle.std.specs.Prelude.{◌≡◌, [], ◌+◌, ◌*◌, ◌≤◌, length};
 ghost use Rattle.rules.specs.Bytes.{little, slot_in, slot_size};
-ghost use Rattle.rules.specs.Answers.{refusal_in};
+ghost use Rattle.std.proofs.Math.Option.{some};
+ghost use Rattle.rules.specs.Answers.{reply, refusal_in};
 ghost use Rattle.rules.specs.Object as object;
-ghost use Rattle.rules.specs.Faithful.{piece};
+ghost use Rattle.rules.specs.Faithful as faithful;
 ghost use Rattle.rules.specs.Tables.{object_of};
-ghost use Rattle.rules.specs.Lent.{offered_code, lent_code};
+ghost use Rattle.rules.specs.Lent.{lent_code};
 ghost use Rattle.rules.specs.Rows.{tables_of};
 ghost use Rattle.rules.specs.Pieces.{pieces_of};
 ghost use Rattle.rules.specs.Examine.{same_form, same_head, same_slot, shown, claim_of, slots_wrong};
@@ -14,14 +15,14 @@ ghost use Rattle.resolve.specs.Means.{Means};
 ghost use Rattle.resolve.specs.Resolves.{Resolves};
 ghost use Rattle.examine.specs.Compared.{is_plain, Slots, Compares, Callable, Visits, target_wrong, call_wrong, reference_wrong, meant_wrong};
 
-use crate::cursor::{move_cursor, relocation_at};
+use crate::cursor::Cursor;
+use crate::piece::Piece;
 use answers::finding;
 use insn::{after, destination, immediate, opcode, place, slot_at, source, start_of};
 use pieces::tiles::starts_at;
-use resolve::{Meaning, resolve};
+use resolve::{Pointer, resolve};
 use rows::fields::{function_offset, function_section, function_slots};
-use rows::find::relocations_before;
-use rules::{Cause, Found, Judgement, Slot};
+use rules::{Cause, Names, Refusal, Slot};
 use walk::ahead;
 use wire::{u16_at, u32_at, u64_at};
 
@@ -30,13 +31,9 @@ fn same_form(a: &[u8], i: Slot, b: &[u8], j: Slot) -> bool
     requires { Slots a.now i.0 b.now j.0 }
     ensures { result ≡ same_form (slot_in little a.now i.0) (slot_in little b.now j.0) }
 {
-    if opcode(a, i) != opcode(b, j) {
-        return false;
-    }
-    if destination(a, i) != destination(b, j) {
-        return false;
-    }
-    u16_at(a, start_of(i) + 2) == u16_at(b, start_of(j) + 2)
+    opcode(a, i) == opcode(b, j)
+        && destination(a, i) == destination(b, j)
+        && u16_at(a, start_of(i) + 2) == u16_at(b, start_of(j) + 2)
 }
 
 // All that a call may not change: one word.
@@ -55,209 +52,147 @@ fn same_slot(a: &[u8], i: Slot, b: &[u8], j: Slot) -> bool
     u64_at(a, start_of(i)) == u64_at(b, start_of(j))
 }
 
-// Slot `slot` of piece k, at `here` in the image, points to the start of a piece of the callee (41).
-fn check_target(
-    image: &[u8],
+// A slot of the image, `here`, with its source slot, `at`: slot `slot` of piece k.
+#[derive(Clone, Copy)]
+struct Compared<'a> {
+    instructions: &'a [u8],
+    at: Slot,
+    image: &'a [u8],
     here: Slot,
-    pieces: &[u8],
+    pieces: &'a [u8],
     k: u32,
     slot: Slot,
-    callee: u32,
-) -> Judgement
-    requires { (slot_size * here.0 + slot_size ≤ length image.now) × StartsRise pieces.now }
-    ensures { refusal_in result ≡ target_wrong (pieces_of pieces.now) k slot.0 here.0 (slot_in little image.now here.0) callee }
-{
-    let target = ahead(here, 1, immediate(image, here));
-    if starts_at(pieces, target, callee) {
-        return Judgement::Passes;
-    }
-    Judgement::Refused(finding(Cause::WrongTarget, k, slot.0, callee))
 }
 
-// A call, of the source slot `at`.
-fn check_call(
-    instructions: &[u8],
-    at: Slot,
-    image: &[u8],
-    here: Slot,
-    pieces: &[u8],
-    k: u32,
-    slot: Slot,
-    callee: u32,
-) -> Judgement
-    requires { Compares image.now here.0 instructions.now at.0 pieces.now }
-    ensures { refusal_in result ≡ call_wrong (pieces_of pieces.now) k slot.0 here.0 (slot_in little instructions.now at.0)
-        (slot_in little image.now here.0) callee }
-{
-    if same_head(image, here, instructions, at) {
-        return check_target(image, here, pieces, k, slot, callee);
+impl Compared<'_> {
+    fn changed(self) -> Result<(), Refusal>
+        ensures { refusal_in result ≡ some (reply 39 self.entry.k self.entry.slot.0 self.entry.here.0) }
+    {
+        Err(finding(Cause::SlotChanged, self.k, self.slot.0, self.here.0))
     }
-    Judgement::Refused(finding(Cause::SlotChanged, k, slot.0, here.0))
-}
 
-fn check_reference(
-    instructions: &[u8],
-    at: Slot,
-    image: &[u8],
-    here: Slot,
-    pieces: &[u8],
-    k: u32,
-    slot: Slot,
-    callee: u32,
-) -> Judgement
-    requires { Compares image.now here.0 instructions.now at.0 pieces.now }
-    ensures { refusal_in result ≡ reference_wrong (pieces_of pieces.now) k slot.0 here.0 (slot_in little instructions.now at.0)
-        (slot_in little image.now here.0) callee }
-{
-    if !same_form(image, here, instructions, at) {
-        return Judgement::Refused(finding(Cause::SlotChanged, k, slot.0, here.0));
-    }
-    if source(image, here) != 4 {
-        return Judgement::Refused(finding(Cause::NotReference, k, slot.0, callee));
-    }
-    check_target(image, here, pieces, k, slot, callee)
-}
-
-// By what the link makes of the source slot.
-fn check_slot(
-    instructions: &[u8],
-    at: Slot,
-    image: &[u8],
-    here: Slot,
-    pieces: &[u8],
-    k: u32,
-    slot: Slot,
-    meaning: Meaning,
-) -> Judgement
-    requires { Compares image.now here.0 instructions.now at.0 pieces.now × Callable meaning }
-    ensures { refusal_in result ≡ meant_wrong (pieces_of pieces.now) k slot.0 here.0 (slot_in little instructions.now at.0)
-        (slot_in little image.now here.0) meaning }
-{
-    match meaning {
-        Meaning::Copied => {
-            if same_slot(image, here, instructions, at) {
-                return Judgement::Passes;
-            }
-            return Judgement::Refused(finding(Cause::SlotChanged, k, slot.0, here.0));
+    // The slot points to the start of a piece of the callee (41).
+    fn check_target(self, callee: u32) -> Result<(), Refusal>
+        requires { (slot_size * self.here.0 + slot_size ≤ length self.image.now) × StartsRise self.pieces.now }
+        ensures { refusal_in result ≡ target_wrong (pieces_of self.entry.pieces.now) self.entry.k self.entry.slot.0 self.entry.here.0
+            (slot_in little self.entry.image.now self.entry.here.0) callee }
+    {
+        let target = ahead(self.here, 1, immediate(self.image, self.here));
+        if starts_at(self.pieces, target, callee) {
+            return Ok(());
         }
-        Meaning::Points(callee, refers) => {
-            let row = callee as u32;
-            if refers {
-                return check_reference(instructions, at, image, here, pieces, k, slot, row);
-            }
-            return check_call(instructions, at, image, here, pieces, k, slot, row);
+        Err(finding(Cause::WrongTarget, self.k, self.slot.0, callee))
+    }
+
+    fn check_call(self, callee: u32) -> Result<(), Refusal>
+        requires { Compares self.image.now self.here.0 self.instructions.now self.at.0 self.pieces.now }
+        ensures { refusal_in result ≡ call_wrong (pieces_of self.entry.pieces.now) self.entry.k self.entry.slot.0 self.entry.here.0
+            (slot_in little self.entry.instructions.now self.entry.at.0) (slot_in little self.entry.image.now self.entry.here.0) callee }
+    {
+        if same_head(self.image, self.here, self.instructions, self.at) {
+            return self.check_target(callee);
         }
-        Meaning::Refused(why) => {
-            return Judgement::Refused(why);
+        self.changed()
+    }
+
+    fn check_reference(self, callee: u32) -> Result<(), Refusal>
+        requires { Compares self.image.now self.here.0 self.instructions.now self.at.0 self.pieces.now }
+        ensures { refusal_in result ≡ reference_wrong (pieces_of self.entry.pieces.now) self.entry.k self.entry.slot.0 self.entry.here.0
+            (slot_in little self.entry.instructions.now self.entry.at.0) (slot_in little self.entry.image.now self.entry.here.0) callee }
+    {
+        if !same_form(self.image, self.here, self.instructions, self.at) {
+            return self.changed();
+        }
+        if source(self.image, self.here) != 4 {
+            return Err(finding(Cause::NotReference, self.k, self.slot.0, callee));
+        }
+        self.check_target(callee)
+    }
+
+    // By what the link makes of the source slot.
+    fn check(self, meaning: Result<Option<Pointer>, Refusal>) -> Result<(), Refusal>
+        requires { Compares self.image.now self.here.0 self.instructions.now self.at.0 self.pieces.now × Callable meaning }
+        ensures { refusal_in result ≡ meant_wrong (pieces_of self.entry.pieces.now) self.entry.k self.entry.slot.0 self.entry.here.0
+            (slot_in little self.entry.instructions.now self.entry.at.0) (slot_in little self.entry.image.now self.entry.here.0) meaning }
+    {
+        match meaning {
+            Ok(None) if same_slot(self.image, self.here, self.instructions, self.at) => Ok(()),
+            Ok(None) => self.changed(),
+            Ok(Some(p)) if p.reference => self.check_reference(p.callee as u32),
+            Ok(Some(p)) => self.check_call(p.callee as u32),
+            Err(why) => Err(why),
         }
     }
 }
 
 // No relocation, and no call's opcode.
-fn is_plain(instructions: &[u8], at: Slot, rel: Found) -> bool
+fn is_plain(instructions: &[u8], at: Slot, rel: Option<usize>) -> bool
     requires { slot_size * at.0 + slot_size ≤ length instructions.now }
     ensures { result ≡ is_plain rel (slot_in little instructions.now at.0) }
 {
-    match rel {
-        Found::Nothing => opcode(instructions, at) != 0x85,
-        Found::At(_) => false,
-    }
+    rel.is_none() && opcode(instructions, at) != 0x85
 }
 
 // What the link makes of a slot: `resolve`, with a short way for most.
 fn meaning_of(
-    code: &[u8],
-    symbols: &[u8],
-    functions: &[u8],
-    relocations: &[u8],
+    names: Names,
     instructions: &[u8],
     row: usize,
     first: Slot,
     slot: Slot,
-    rel: Found,
-) -> Meaning
-    requires { Resolves (offered_code code.now symbols.now functions.now relocations.now instructions.now) row first.0 slot.0 rel }
+    rel: Option<usize>,
+) -> Result<Option<Pointer>, Refusal>
+    requires { Resolves (lent_code names instructions.now) row first.0 slot.0 rel }
     ensures { Means row slot.0 result
-        (object.meaning (object_of (tables_of little (lent_code code.now symbols.now functions.now relocations.now instructions.now))) row slot.0) }
+        (object.meaning (object_of (tables_of little (lent_code names.entry instructions.now))) row slot.0) }
 {
     if is_plain(instructions, after(first, slot), rel) {
-        return Meaning::Copied;
+        return Ok(None);
     }
-    resolve(
-        code,
-        symbols,
-        functions,
-        relocations,
-        instructions,
-        row,
-        first,
-        slot,
-        rel,
-    )
+    resolve(names, instructions, row, first, slot, rel)
 }
 
-// Piece k, a copy of `row` that starts there; the row's first slot in table 6 is `first`.
+// The slots of a piece, in rising order.
 pub fn check_slots(
-    code: &[u8],
-    symbols: &[u8],
-    functions: &[u8],
-    relocations: &[u8],
+    names: Names,
     instructions: &[u8],
     image: &[u8],
     pieces: &[u8],
-    k: u32,
-    row: usize,
-    start: Slot,
-    first: Slot,
-) -> Judgement
-    requires { Visits
-        (offered_code code.now symbols.now functions.now relocations.now instructions.now)
-        image.now
-        pieces.now
-        row
-        start.0
-        first.0 }
+    piece: Piece,
+) -> Result<(), Refusal>
+    requires { Visits (lent_code names instructions.now) image.now pieces.now piece.row piece.start.0 piece.part.slots }
     ensures { refusal_in result ≡ slots_wrong
-        (tables_of little (lent_code code.now symbols.now functions.now relocations.now instructions.now))
+        (tables_of little (lent_code names.entry instructions.now))
         (claim_of little (shown image.now [] [] pieces.now))
-        k
-        (piece row start.0) }
+        piece.k
+        (faithful.piece piece.row piece.start.0) }
 {
-    let own = function_slots(functions, row);
-    let slots = own.0;
-    let home = function_section(functions, row);
-    let offset = function_offset(functions, row);
-    let mut cursor = relocations_before(relocations, home, offset);
-    let mut n: u32 = 0;
-    while n < slots {
+    let slots = function_slots(names.functions, piece.row).0;
+    let home = function_section(names.functions, piece.row);
+    let offset = function_offset(names.functions, piece.row);
+    let first = slot_at(piece.part.slots);
+    let mut cursor = Cursor::new(names.relocations, home, offset);
+    for n in 0..slots {
         let slot = slot_at(n);
-        let at = place(offset, slot);
-        cursor = move_cursor(relocations, cursor, home, at);
+        cursor = cursor.moved_to(place(offset, slot));
         let meaning = meaning_of(
-            code,
-            symbols,
-            functions,
-            relocations,
+            names,
             instructions,
-            row,
+            piece.row,
             first,
             slot,
-            relocation_at(relocations, cursor, home, at),
+            cursor.relocation(),
         );
-        let judged = check_slot(
+        let compared = Compared {
             instructions,
-            after(first, slot),
+            at: after(first, slot),
             image,
-            after(start, slot),
+            here: after(piece.start, slot),
             pieces,
-            k,
+            k: piece.k,
             slot,
-            meaning,
-        );
-        let Judgement::Passes = judged else {
-            return judged;
         };
-        n += 1;
+        compared.check(meaning)?;
     }
-    Judgement::Passes
+    Ok(())
 }

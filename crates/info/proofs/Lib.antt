@@ -1,3 +1,4 @@
 pub mod Whole
 pub mod Written
 pub mod Laws
+pub mod Chunks

@@ -1,25 +1,20 @@
--- What the tests settle: one record of the grid, as the loop takes it; that every record lies within the data; which of its three answers a reader gives.
+-- What the tests settle: that every record lies within the data; which of its three answers a reader gives.
 -- Assumes nothing.
-use mathlib.Core.Path.{◌≡◌, refl, sym, ap, ◌∙◌}
+use mathlib.Core.Path.{◌≡◌, refl}
 use mathlib.Core.Bool.{Bool, true, false, ◌&&◌}
 use mathlib.Core.List.{[]}
-use Prim.Native.Nat.{ℕ, zero, suc, ◌+◌, ◌-◌, ◌*◌, ◌%◌, ◌≤◌, ◌<◌, ◌^◌}
+use Prim.Native.Nat.{ℕ, zero, suc, ◌+◌, ◌*◌, ◌%◌, ◌≤◌, ◌<◌}
 use native.Mathlib.Omega.{arith}
-use native.Mathlib.Nat.{lt_of_le_of_lt, le_of_lt, mul-le-mul_left, mul-lt-mul_of_pos_right, mul_comm, mul-suc, zero-add, add-zero}
+use native.Mathlib.Nat.{mul-le-mul_left, mul_comm, mul-suc, zero-add, add-zero}
 use native.Mathlib.Numerals.{add-one}
-use borrow.Author.Tests.{eqb-true, leb-true, le-leb, lt-leb}
-use lib.Dec.{leb, eqb}
+use borrow.Author.Tests.{eqb-true, leb-true, ltb-true, le-leb, lt-leb}
+use lib.Dec.{leb, ltb, eqb}
 use lib.ListN.{length}
-use lib.Pow.{pow_pos}
 use Rattle.rules.specs.declared.Table.{Table}
 use Rattle.rules.specs.Bytes.{Order, u32_at, padded}
 use Rattle.rules.specs.Answers.{reply}
 use Rattle.rules.specs.Rows.{row_size}
-use Rattle.rules.specs.Readers.{Info, on_grid, is_whole, rows_of_records, read, read_records}
-
--- a u32 times a u32 is a u64
-pub product : {a b : ℕ} → a < 2 ^ 32 → b < 2 ^ 32 → a * b < 2 ^ 64
-product {a} {b} ha hb = lt_of_le_of_lt (mul-le-mul_left a (le_of_lt hb)) (mul-lt-mul_of_pos_right ha (pow_pos 32))
+use Rattle.rules.specs.Readers.{Info, on_grid, is_whole, has_record, rows_of_records, read, read_records}
 
 -- piece k ends within n pieces
 pub one_more_fits : (size k n : ℕ) → k < n → size * k + size ≤ n * size
@@ -30,29 +25,7 @@ next size k = rw (add-one k) (omega (arith, mul-suc size k))
 
 both : (a b : Bool) → a && b ≡ true → (a ≡ true) × (b ≡ true)
 both true b e = (refl, e)
-both false b e = let z : ◌≡◌ {A = ℕ} 0 1 = cc in absurd (omega arith)
-
--- what one of two tests refuses has not passed both
-pub first_refuses : (a b : Bool) → a ≡ false → a && b ≡ true → ⊥
-first_refuses true b refused e = let z : ◌≡◌ {A = ℕ} 0 1 = cc in omega arith
-first_refuses false b refused e = let z : ◌≡◌ {A = ℕ} 0 1 = cc in omega arith
-
-pub second_refuses : (a b : Bool) → b ≡ false → a && b ≡ true → ⊥
-second_refuses true b refused e = let z : ◌≡◌ {A = ℕ} 0 1 = cc in omega arith
-second_refuses false b refused e = let z : ◌≡◌ {A = ℕ} 0 1 = cc in omega arith
-
-module _ (order : Order) (info : Info) (k n : ℕ) (more : k < n) where
-  one_more : on_grid order info k (n - k) ≡ eqb (u32_at order info.bytes (info.size * k) % 8) 0 && on_grid order info (k + 1) (n - (k + 1))
-  one_more =
-      let e : n - k ≡ suc (n - (k + 1)) = omega arith in
-      ap (on_grid order info k) e
-      ∙ ap (λ (m : ℕ). eqb (u32_at order info.bytes (info.size * k) % 8) 0 && on_grid order info m (n - (k + 1))) (sym (add-one k))
-
-  pub grid_step : eqb (u32_at order info.bytes (info.size * k) % 8) 0 ≡ true → on_grid order info k (n - k) ≡ on_grid order info (k + 1) (n - (k + 1))
-  grid_step e = one_more ∙ ap (λ (b : Bool). b && on_grid order info (k + 1) (n - (k + 1))) e
-
-  pub grid_stop : eqb (u32_at order info.bytes (info.size * k) % 8) 0 ≡ false → on_grid order info k (n - k) ≡ false
-  grid_stop e = one_more ∙ ap (λ (b : Bool). b && on_grid order info (k + 1) (n - (k + 1))) e
+both false b e = cc
 
 grid_at : (order : Order) (info : Info) (k n i : ℕ) → on_grid order info k n ≡ true → i < n
     → u32_at order info.bytes (info.size * (k + i)) % 8 ≡ 0
@@ -90,6 +63,12 @@ module _ (order : Order) (table : Table) (info : Info) (whole : is_whole order t
   pub read_short : (room : ℕ) → room < info.count * row_size table → read_records order table info room ≡ read (reply 11 0 0 0) (padded room [])
   unfolding read_records
   read_short room h = simp (whole, lt-leb _ _ h)
+
+-- a record that there is ends within the data
+pub record_within : (order : Order) (table : Table) (info : Info) (k : ℕ) → has_record order table info k ≡ true → info.size * k + info.size ≤ length info.bytes
+record_within order table info k e =
+    let p = both (is_whole order table info) (ltb k info.count) e in
+    whole_within order table info p.0 k (ltb-true _ _ p.1)
 
 pub read_broken : (order : Order) (table : Table) (info : Info) (room : ℕ) → is_whole order table info ≡ false
     → read_records order table info room ≡ read (reply 14 0 0 0) (padded room [])

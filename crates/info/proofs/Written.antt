@@ -6,21 +6,15 @@ use Prim.Native.Nat.{ℕ, zero, suc, ◌+◌, ◌-◌, ◌*◌, ◌/◌, ◌≤�
 use native.Mathlib.Omega.{arith}
 use native.Mathlib.Nat.{add-zero, zero-add, mul-suc, mul-zero}
 use native.Mathlib.Numerals.{add-one}
-use lib.ListN.{length, take, drop, replicate, replicate-append-replicate, length-replicate, length-append, length-take, length-drop}
-use lib.Seq.{take_at, drop-append-add, drop_at}
+use lib.ListN.{length, take, drop, replicate, length-append, length-take, length-drop}
+use lib.Seq.{take_at, drop-append-add}
+use Rattle.std.proofs.lemmas.List.{drop-replicate}
 use Rattle.rules.specs.declared.Table.{Table}
 use Rattle.rules.specs.declared.Table.TheVariants.{Code, Symbols, Functions, Relocations, Maps, Instructions, FuncInfo, LineInfo}
 use Rattle.rules.specs.Bytes.{Order, u32_at, bytes4, splice, padded}
 use Rattle.rules.specs.Rows.{row_size}
 use Rattle.rules.specs.Readers.{Info, row_of_record, rows_of_records}
 use Rattle.rules.proofs.Writing.{length_bytes4}
-
-drop_zeros : (k n : ℕ) → k ≤ n → drop {A = ℕ} k (replicate n 0) ≡ replicate (n - k) 0
-drop_zeros k n h =
-    let e : n ≡ k + (n - k) = omega arith in
-    ap (λ (m : ℕ). drop {A = ℕ} k (replicate m 0)) e
-    ∙ ap (drop {A = ℕ} k) (sym (replicate-append-replicate k (n - k) 0))
-    ∙ drop_at (replicate k 0) (replicate (n - k) 0) k (length-replicate k 0)
 
 -- all zero
 pub padded_none : (n : ℕ) → replicate n 0 ≡ padded n []
@@ -34,7 +28,7 @@ padded_more n xs vs at e h =
     let z : n - length xs - length vs ≡ n - length (xs ++ vs) = omega (arith, length-append xs vs) in
     ap (λ (l : List ℕ). l ++ vs ++ drop (at + length vs) (xs ++ replicate (n - length xs) 0)) (take_at xs (replicate (n - length xs) 0) at e)
     ∙ ap (λ (m : ℕ). xs ++ vs ++ drop (m + length vs) (xs ++ replicate (n - length xs) 0)) (sym e)
-    ∙ ap (λ (l : List ℕ). xs ++ vs ++ l) (drop-append-add xs (replicate (n - length xs) 0) (length vs) ∙ drop_zeros (length vs) (n - length xs) (omega arith))
+    ∙ ap (λ (l : List ℕ). xs ++ vs ++ l) (drop-append-add xs (replicate (n - length xs) 0) (length vs) ∙ drop-replicate (length vs) (n - length xs) 0)
     ∙ ap (λ (m : ℕ). xs ++ vs ++ replicate m 0) z
 
 pub row_size_least : (table : Table) → 4 ≤ row_size table
@@ -100,10 +94,3 @@ module _ (order : Order) (table : Table) (info : Info) where
 
         slot_long : length slot ≡ 4
         slot_long = length_bytes4 order (u32_at order info.bytes (info.size * k) / 8)
-
-    -- the same with the loop's row size, places and number
-    pub turned : (room row from to k v : ℕ) (out once twice : List ℕ) → row ≡ row_size table → from ≡ info.size * k → to ≡ row * k
-        → v ≡ u32_at order info.bytes from / 8 → out ≡ padded room (rows_of_records order table info 0 k)
-        → once ≡ splice out to (bytes4 order v) → twice ≡ splice once (to + 4) (take (row - 4) (drop (from + 4) info.bytes))
-        → k < info.count → row * k + row ≤ room → twice ≡ padded room (rows_of_records order table info 0 (k + 1))
-    turned room row from to k v out once twice er ef et ev eo e₁ e₂ l h = rw (e₂, e₁, eo, ev, et, ef, er) (turn room k l (rw er at h))

@@ -1,4 +1,4 @@
-pub mod Sums
 pub mod Ends
 pub mod Words
 pub mod WideLoads
+pub mod KindTable

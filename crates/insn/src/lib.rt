@@ -26,11 +26,11 @@ pub fn offset_at(n: u64) -> ByteOffset
     ByteOffset(n)
 }
 
+// Conversions are functions with names, and no From: document 01 asks for that.
 pub fn to_offset(s: Slot) -> ByteOffset
     ensures { (result.0 ≡ offset_of s.0) × (result.0 < 2 ^ 35) }
 {
-    let n = s.0;
-    ByteOffset(8 * (n as u64))
+    ByteOffset(8 * u64::from(s.0))
 }
 
 // The slot in which an offset lies; rounded down.
@@ -38,8 +38,7 @@ pub fn to_slot(o: ByteOffset) -> Slot
     requires { o.0 < 2 ^ 35 }
     ensures { result.0 ≡ slot_of o.0 }
 {
-    let n = o.0;
-    Slot((n / 8) as u32)
+    Slot((o.0 / 8) as u32)
 }
 
 // Where a slot begins.
@@ -54,8 +53,7 @@ pub fn place(base: ByteOffset, s: Slot) -> ByteOffset
     requires { base.0 < 2 ^ 48 }
     ensures { (result.0 ≡ base.0 + offset_of s.0) × (result.0 < 2 ^ 49) }
 {
-    let on = to_offset(s);
-    ByteOffset(base.0 + on.0)
+    ByteOffset(base.0 + to_offset(s).0)
 }
 
 // A slot counted from a first one.
@@ -73,65 +71,64 @@ pub fn next(s: Slot) -> Slot
     Slot(s.0 + 1)
 }
 
+// This sum and the next two are each as its definition has it, a line each: one function over the factor or the order would be no plainer.
 // From the place of a slot, or from an address: exact at 64 bits for every immediate.
 pub fn call_target(base: ByteOffset, imm: i32) -> i64
     requires { base.0 < 2 ^ 49 }
     ensures { result ≡ pos base.0 +ℤ slots_on imm }
 {
-    base.0 as i64 + 8 * (imm as i64 + 1)
+    base.0 as i64 + 8 * (i64::from(imm) + 1)
 }
 
 pub fn byte_target(base: ByteOffset, imm: i32) -> i64
     requires { base.0 < 2 ^ 48 }
     ensures { result ≡ pos base.0 +ℤ imm }
 {
-    base.0 as i64 + imm as i64
+    base.0 as i64 + i64::from(imm)
 }
 
 pub fn value(imm: i32, address: ByteOffset) -> i64
     requires { address.0 < 2 ^ 48 }
     ensures { result ≡ imm +ℤ pos address.0 }
 {
-    imm as i64 + address.0 as i64
+    i64::from(imm) + address.0 as i64
 }
 
 // Exact at 64 bits, whatever the two slots.
 pub fn displacement(start: Slot, here: Slot) -> i64
     ensures { result ≡ object.displacement start.0 here.0 }
 {
-    start.0 as i64 - here.0 as i64 - 1
+    i64::from(start.0) - i64::from(here.0) - 1
 }
 
 // The place of a slot's first byte in a table of slots.
 pub fn start_of(slot: Slot) -> usize
     ensures { (result ≡ slot_size * slot.0) × (result < 2 ^ 35) }
 {
-    let n = slot.0;
-    8 * (n as usize)
+    8 * slot.0 as usize
 }
 
+// From here on bytes and slot are lent side by side, with one fact of both: docs/CLAIMS.md names these functions, so a type with an invariant
+// may not ask it in their place.
 pub fn opcode(code: &[u8], slot: Slot) -> u8
     requires { slot_size * slot.0 + slot_size ≤ length code.now }
     ensures { result ≡ (slot_in little code.now slot.0).opcode }
 {
-    let at = start_of(slot);
-    code[at]
+    code[start_of(slot)]
 }
 
 pub fn destination(code: &[u8], slot: Slot) -> u8
     requires { slot_size * slot.0 + slot_size ≤ length code.now }
     ensures { result ≡ (slot_in little code.now slot.0).destination }
 {
-    let at = start_of(slot);
-    code[at + 1] % 16
+    code[start_of(slot) + 1] % 16
 }
 
 pub fn source(code: &[u8], slot: Slot) -> u8
     requires { slot_size * slot.0 + slot_size ≤ length code.now }
     ensures { result ≡ (slot_in little code.now slot.0).source }
 {
-    let at = start_of(slot);
-    code[at + 1] / 16
+    code[start_of(slot) + 1] / 16
 }
 
 pub fn offset(code: &[u8], slot: Slot) -> i16
@@ -148,7 +145,7 @@ pub fn immediate(code: &[u8], slot: Slot) -> i32
     i32_at(code, start_of(slot) + 4)
 }
 
-// Opcode 85 hex, register byte 10 hex, offset 0: one word.
+// Opcode 85 hex, register byte 10 hex, offset 0: one word. The next tests it for 0: a function over the word would be no plainer.
 pub fn insn_is_call(code: &[u8], slot: Slot) -> bool
     requires { slot_size * slot.0 + slot_size ≤ length code.now }
     ensures { result ≡ is_call (slot_in little code.now slot.0) }
@@ -167,14 +164,8 @@ pub fn is_wide_load(code: &[u8], slot: Slot, end: Slot) -> bool
     requires { (slot.0 < end.0) × (slot_size * end.0 ≤ length code.now) }
     ensures { result ≡ wide_load_in code.now slot.0 end.0 }
 {
-    if opcode(code, slot) != 0x18 {
-        return false;
-    }
     let second = next(slot);
-    if second.0 >= end.0 {
-        return false;
-    }
-    is_blank(code, second)
+    opcode(code, slot) == 0x18 && second < end && is_blank(code, second)
 }
 
 pub fn set_immediate(code: &mut [u8], slot: Slot, imm: i32)

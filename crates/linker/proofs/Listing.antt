@@ -9,8 +9,7 @@ use Prim.Native.Nat.{ℕ, ◌≤◌, ◌<◌}
 use native.Mathlib.Omega.{arith}
 use borrow.Author.Tests.{lt-ltb, le-ltb}
 use lib.ListN.{length, get_or, replicate, length-replicate}
-use Rattle.rules.specs.declared.Answer.TheVariants.{Done, Refused}
-use Rattle.rules.specs.declared.Places.{Places}
+use Rattle.std.specs.Prelude.{Ok, Err}
 use Rattle.rules.specs.declared.Refusal as told
 use Rattle.rules.specs.declared.Table.TheVariants.{Functions}
 use Rattle.rules.specs.Faithful.{piece}
@@ -30,11 +29,12 @@ use Rattle.rules.proofs.Numbered.{Numbered, step_numbered}
 use Rattle.rules.proofs.Placing.{placed_distinct, list_in_order, placed_rows, rows_filled, placed_few_rows}
 use Rattle.rules.proofs.Reading.{rows_are}
 use Rattle.rules.proofs.Refusing as Refusing
+use Rattle.rules.proofs.Replies as Replies
 use Rattle.pieces.specs.InOrder.{in_order, list_from, Lists, Puts}
 use Rattle.pieces.proofs.Listing.{pieces_length, order_length, splice_zeros}
 use Rattle.pieces.proofs.Starting.{Located, Once, in_order_lem}
 use Rattle.linker.specs.declared.Linked.{Linked}
-use Rattle.linker.specs.Linker.{start_number, StartsAre, Outcomes, Accounts, StartedOutcomes, ListedOutcomes}
+use Rattle.linker.specs.Linker.{start_number, StartsAre, Outcomes, Accounts, Wiped, StartedOutcomes, ListedOutcomes}
 use Rattle.linker.proofs.Extending.{object_slots}
 use Rattle.linker.proofs.Whole.{zeros_padded, wiped}
 
@@ -136,43 +136,39 @@ module _ (o : Offered) (root : ℕ) (b : Buffers) (size : ℕ) where
   unfolding link_pieces_entry
   entry_long l = ap (λ x. cond x (list_refused (lent_by b) size) entry) (le-ltb size (list_room o) l)
 
-  pub no_room : {i f l p : List ℕ} → i ≡ replicate (length b.image) 0 → f ≡ replicate (length b.funcs) 0 → l ≡ replicate (length b.lines) 0 → p ≡ replicate size 0
-      → (why : told.Refusal) → refused_reply why ≡ reply 32 0 0 0 → size < list_room o
-      → ListedOutcomes (buffers i f l) p (record { answer = Refused why; count = 0 }) (link_pieces_entry little o root (lent_by b) size)
-  no_room {i} {f} {l} {p} zi zf zl zp why is short =
-      subst (ListedOutcomes (buffers i f l) p (record { answer = Refused why; count = 0 })) (sym (entry_short short)) (record {
-        outcomes = wiped o root b (buffers i f l) zi zf zl (reply 32 0 0 0) (Refused why) is;
+  pub no_room : {z : Buffers} {p : List ℕ} → Wiped b z → p ≡ replicate size 0 → (why : told.Refusal) → refused_reply why ≡ reply 32 0 0 0 → size < list_room o
+      → ListedOutcomes z p (Err why) (link_pieces_entry little o root (lent_by b) size)
+  no_room {z} {p} w zp why is short =
+      subst (ListedOutcomes z p (Err why)) (sym (entry_short short)) (record {
+        outcomes = wiped o root b z w (reply 32 0 0 0) (Err why) is;
         pieces = zp ∙ zeros_padded size;
         counted = refl;
       })
 
-  module _ (long : list_room o ≤ size) {b' : Buffers} {r : Linked} (x : StartedOutcomes o root (lent_by b) b' r) where
-    pub list_refused_lem : {p : List ℕ} → p ≡ replicate size 0 → (reply_of r.answer).number ≢ 0
-        → ListedOutcomes b' p (record { answer = r.answer; count = 0 }) (link_pieces_entry little o root (lent_by b) size)
+  module _ (long : list_room o ≤ size) {b' : Buffers} where
+    pub list_refused_lem : {why : told.Refusal} {p : List ℕ} → StartedOutcomes o root (lent_by b) b' (Err why) → p ≡ replicate size 0
+        → ListedOutcomes b' p (Err why) (link_pieces_entry little o root (lent_by b) size)
     unfolding pieces_bytes
-    list_refused_lem {p} zp n =
-        let none_listed : link_list little o root (lent_by b) ≡ [] = no_list o root (lent_by b) (λ z. n (ap (λ (y : Reply). y.number) x.outcomes.reply ∙ z)) in
-        subst (ListedOutcomes b' p (record { answer = r.answer; count = 0 })) (sym (entry_long long)) (record {
+    list_refused_lem {why} {p} x zp =
+        let none_listed : link_list little o root (lent_by b) ≡ [] = no_list o root (lent_by b) (λ z. Replies.refuses why (ap (λ (y : Reply). y.number) x.outcomes.reply ∙ z)) in
+        subst (ListedOutcomes b' p (Err why)) (sym (entry_long long)) (record {
           outcomes = x.outcomes;
           pieces = zp ∙ zeros_padded size ∙ ap (λ ps. padded size (pieces_bytes ps)) (sym none_listed);
           counted = ap length (sym none_listed);
         })
 
-    module _ (places : Places) (is : r.answer ≡ Done places) where
-      said : reply_of (Done places) ≡ (link_entry little o root (lent_by b)).reply
-      said = ap reply_of (sym is) ∙ x.outcomes.reply
-
+    module _ {l : Linked} (x : StartedOutcomes o root (lent_by b) b' (Ok l)) where
       ends : Accepted o root (lent_by b)
-      ends = accepted o root (lent_by b) (sym (ap (λ (y : Reply). y.number) said))
+      ends = accepted o root (lent_by b) (sym (ap (λ (y : Reply). y.number) x.outcomes.reply))
 
-      slots_are : places.0 ≡ length ends.final.image
-      slots_are = ap (λ (y : Reply). get_or y.places 0 0) said ∙ slots_said o root (lent_by b) ends
+      slots_are : l.places.0 ≡ length ends.final.image
+      slots_are = ap (λ (y : Reply). get_or y.places 0 0) x.outcomes.reply ∙ slots_said o root (lent_by b) ends
 
-      accounts : Accounts o ends.final r.starts
+      accounts : Accounts o ends.final l.starts
       accounts = x.accounts ends.passed ends.final ends.ends
 
       -- what `put_list` asks
-      pub lists : {p : List ℕ} → p ≡ replicate size 0 → Lists o.functions root places.0 p
+      pub lists : {p : List ℕ} → p ≡ replicate size 0 → Lists o.functions root l.places.0 p
       lists zp = record {
         sound = (Refusing.link_checked o root ends.passed).tables.functions;
         root_in = Refusing.root_is_row o root ends.passed;
@@ -180,23 +176,23 @@ module _ (o : Offered) (root : ℕ) (b : Buffers) (size : ℕ) where
         room = omega (arith, ap length zp, length-replicate {A = ℕ} size 0);
       }
 
-      list_same : list_from o.functions r.starts root places.0 ≡ link_list little o root (lent_by b)
-      list_same = ap (list_from o.functions r.starts root) slots_are ∙ listed o root (lent_by b) ends r.starts accounts.starts_are
+      list_same : list_from o.functions l.starts root l.places.0 ≡ link_list little o root (lent_by b)
+      list_same = ap (list_from o.functions l.starts root) slots_are ∙ listed o root (lent_by b) ends l.starts accounts.starts_are
 
-      list_fits : length (pieces_bytes (list_from o.functions r.starts root places.0)) ≤ size
+      list_fits : length (pieces_bytes (list_from o.functions l.starts root l.places.0)) ≤ size
       list_fits =
           let n : ℕ = whole_rows Functions o.functions in
           omega (
             arith,
-            pieces_length (list_from o.functions r.starts root places.0),
-            order_length (function_slots o.functions) r.starts n places.0 n (function_slots o.functions root),
+            pieces_length (list_from o.functions l.starts root l.places.0),
+            order_length (function_slots o.functions) l.starts n l.places.0 n (function_slots o.functions root),
           )
 
-      pub list_done : {p p' : List ℕ} {count : ℕ} → p ≡ replicate size 0 → Puts o.functions r.starts root places.0 p p' count
-          → ListedOutcomes b' p' (record { answer = Done places; count = count }) (link_pieces_entry little o root (lent_by b) size)
+      pub list_done : {p p' : List ℕ} {count : ℕ} → p ≡ replicate size 0 → Puts o.functions l.starts root l.places.0 p p' count
+          → ListedOutcomes b' p' (Ok (record { places = l.places; count = count })) (link_pieces_entry little o root (lent_by b) size)
       list_done {p} {p'} {count} zp puts =
-          subst (ListedOutcomes b' p' (record { answer = Done places; count = count })) (sym (entry_long long)) (record {
-            outcomes = subst (λ a. Outcomes b' a (link_entry little o root (lent_by b))) is x.outcomes;
+          subst (ListedOutcomes b' p' (Ok (record { places = l.places; count = count }))) (sym (entry_long long)) (record {
+            outcomes = x.outcomes;
             pieces = puts.written ∙ splice_zeros size p _ zp list_fits ∙ ap (λ ps. padded size (pieces_bytes ps)) list_same;
             counted = puts.counted ∙ ap length list_same;
           })

@@ -14,8 +14,8 @@ use borrow.Author.Tests.{eq-eqb, ne_eqb}
 use lib.ListN.{length, get_or, set}
 use lib.Seq.{get_or-set_same, get_or-set_other}
 use Rattle.rules.specs.declared.Refusal as told
-use Rattle.rules.specs.declared.Judgement.{Judgement}
-use Rattle.rules.specs.declared.Judgement.TheVariants.{Passes, Refused}
+use Rattle.std.specs.Prelude.{Result, Ok, Err, IfOk}
+use Rattle.std.proofs.lemmas.Result.{IfOk-weaker}
 use Rattle.rules.specs.declared.Table.TheVariants.{Functions}
 use Rattle.rules.specs.Object.{Insn, Meaning, copied, call, reference, refused, meaning, calling, referring}
 use Rattle.rules.specs.Bytes.{little}
@@ -23,7 +23,7 @@ use Rattle.rules.specs.Link as Link
 use Rattle.rules.specs.Link.{Refusal, refusal, Outcome, linked, refuses, unfinished, and_then, start_of, extended, rewritten, unless, at_slot, visit, append}
 use Rattle.rules.specs.Tables.{object_of}
 use Rattle.rules.specs.Records.{admits}
-use Rattle.rules.specs.Answers.{reply, refused_reply, refusal_in}
+use Rattle.rules.specs.Answers.{reply, refused_reply}
 use Rattle.rules.specs.Rows.{most_rows, whole_rows, Offered, function_slots, summed, tables_of, most_image_slots}
 use Rattle.rules.specs.Entries.{refusal_reply, Outputs, room_in}
 use Rattle.rules.proofs.Passed.{good_function, few_rows}
@@ -31,9 +31,8 @@ use Rattle.rules.proofs.Reading.{rows_are}
 use Rattle.rules.proofs.Lookups.{names_rows}
 use Rattle.rules.proofs.Unfolds.{append_unfolds}
 use Rattle.linker.specs.declared.State.{State}
-use Rattle.linker.specs.declared.Step.{Step}
 use Rattle.rules.specs.Lent.{Buffers, buffers, lent_by}
-use Rattle.linker.specs.Linker.{start_number, tally, unplaced, Valid, Grown, Holds, Passed, Agrees, adding, visiting, placing, Asks, Adds, Added, Placed, Visits, Visited, pointed_to}
+use Rattle.linker.specs.Linker.{start_number, tally, unplaced, Valid, Grown, Holds, Agrees, adding, visiting, placing, Asks, Adds, Added, Placed, Visits, Visited, pointed_to}
 use Rattle.linker.proofs.Pointing.{pointing, point_valid, point_holds, point_length}
 use Rattle.linker.proofs.Extending.{object_slots, Room, state_more, buffers_more, more_valid, more_holds, more_lengths}
 
@@ -98,13 +97,6 @@ pub in_object : (o : Offered) (row : ℕ) → row < whole_rows Functions o.funct
 unfolding object_of
 in_object o row l = rw (rows_are little o) l
 
-some_not_none : {A : Type 0} {a : A} {X : Type 0} → some a ≡ none → X
-some_not_none e = let z : ◌≡◌ {A = ℕ} 0 1 = cc in absurd (omega arith)
-
--- what is refused has not passed
-pub told_refused : {j : Judgement} {why : told.Refusal} → j ≡ Refused why → refusal_in j ≡ none → ⊥
-told_refused e z = some_not_none (sym (ap refusal_in e) ∙ z)
-
 -- ---- adding
 module _ {o : Offered} {st : State} {b : Buffers} {row : ℕ} (pre : Adds o st b row) where
   has_slot : 1 ≤ function_slots o.functions row
@@ -131,15 +123,15 @@ module _ {o : Offered} {st : State} {b : Buffers} {row : ℕ} (pre : Adds o st b
   -- refused: nothing is written
   pub add_refused : (a : told.Refusal) (why : Refusal) → refused_reply a ≡ refusal_reply why
       → ((root : ℕ) (s : Link.State) → Holds o root st b s → admits (tables_of little o) (room_in (lent_by b)) root row s ≡ some why)
-      → Added o st b row (record { judged = Refused a; state = st }) b
+      → Added o st b row (Err a) b
   add_refused a why e refusing = record {
     gives = record {
-      valid = λ z. some_not_none z;
-      grown = λ z. some_not_none z;
+      valid = tt;
+      grown = tt;
       lengths = refl;
-      agrees = λ root s h. subst (Agrees o root (record { judged = Refused a; state = st }) b) (sym (adding_by root s h (some why) (refusing root s h))) (ap some e);
+      agrees = λ root s h. subst (Agrees o root (Err a) b) (sym (adding_by root s h (some why) (refusing root s h))) e;
     };
-    start = λ z. some_not_none z;
+    start = tt;
   }
 
   -- room and no stray: extended, then visited
@@ -170,18 +162,18 @@ module _ {o : Offered} {st : State} {b : Buffers} {row : ℕ} (pre : Adds o st b
     placed_here : get_or (state_more o row st).starts row 0 ≡ st.used.slots
     placed_here = get_or-set_same st.starts row st.used.slots 0 in_array
 
-    pub add_done : (r : Step) (b' : Buffers) → Visited o (state_more o row st) (buffers_more o row st.used b) row st.used.slots r b' → Added o st b row r b'
+    pub add_done : (r : Result State told.Refusal) (b' : Buffers) → Visited o (state_more o row st) (buffers_more o row st.used b) row st.used.slots r b' → Added o st b row r b'
     add_done r b' v = record {
       gives = record {
         valid = v.valid;
-        grown = λ z. grown_trans first_grown (v.grown z);
+        grown = IfOk-weaker r _ _ (λ now. grown_trans first_grown) v.grown;
         lengths = v.lengths ∙ lens;
         agrees = λ root s h. subst (Agrees o root r b') (sym (adding_by root s h none (fine root s h)))
             (subst (λ lent. Agrees o root r b' (visiting o lent root row st.used.slots (function_slots o.functions row) 0 (extended (object_of (tables_of little o)) row s))) lens
             (v.agrees root (extended (object_of (tables_of little o)) row s)
             (more_holds pre.asks.checked row pre.asks.row_in has_slot st b pre.asks.valid room h (fresh_none h row pre.asks.row_in pre.fresh) in_array)));
       };
-      start = λ z. (v.grown z).starts row (λ q. omega (arith, pre.asks.valid.some_slot, sym placed_here ∙ q)) ∙ placed_here;
+      start = IfOk-weaker r _ _ (λ now g. g.starts row (λ q. omega (arith, pre.asks.valid.some_slot, sym placed_here ∙ q)) ∙ placed_here) v.grown;
     }
       where
         lens : lent_by (buffers_more o row st.used b) ≡ lent_by b
@@ -193,26 +185,26 @@ module _ {o : Offered} {st : State} {b : Buffers} {callee : ℕ} (pre : Asks o s
   callee_in = omega (arith, few_rows Functions o.functions pre.checked.tables.functions, pre.row_in)
 
   -- with a start already
-  pub place_there : get_or st.starts callee 0 ≢ 0 → Placed o st b callee (record { judged = Passes; state = st }) b
+  pub place_there : get_or st.starts callee 0 ≢ 0 → Placed o st b callee (Ok st) b
   place_there n = record {
     gives = record {
-      valid = λ z. pre.valid;
-      grown = λ z. grown_refl st;
+      valid = pre.valid;
+      grown = grown_refl st;
       lengths = refl;
       agrees = λ root s h. go root s h (start_of callee s.placed) refl;
     };
-    start = λ z e. absurd (n e);
+    start = λ e. absurd (n e);
   }
     where
       go : (root : ℕ) (s : Link.State) → Holds o root st b s → (p : Option ℕ) → start_of callee s.placed ≡ p
-          → Agrees o root (record { judged = Passes; state = st }) b (placing o (lent_by b) root p callee s)
+          → Agrees o root (Ok st) b (placing o (lent_by b) root p callee s)
       go root s h none e = absurd (n (h.starts callee pre.row_in ∙ ap start_number e))
-      go root s h (some start) e = (refl, h)
+      go root s h (some start) e = h
 
   pub place_adds : get_or st.starts callee 0 ≡ 0 → Adds o st b callee
   place_adds e = record { asks = pre; fresh = e }
 
-  pub place_added : get_or st.starts callee 0 ≡ 0 → (r : Step) (b' : Buffers) → Added o st b callee r b' → Placed o st b callee r b'
+  pub place_added : get_or st.starts callee 0 ≡ 0 → (r : Result State told.Refusal) (b' : Buffers) → Added o st b callee r b' → Placed o st b callee r b'
   place_added e r b' a = record {
     gives = record {
       valid = a.gives.valid;
@@ -221,7 +213,7 @@ module _ {o : Offered} {st : State} {b : Buffers} {callee : ℕ} (pre : Asks o s
       agrees = λ root s h.
           subst (λ p. Agrees o root r b' (placing o (lent_by b) root p callee s)) (sym (fresh_none h callee pre.row_in e)) (a.gives.agrees root s h);
     };
-    start = λ z f. a.start z;
+    start = IfOk-weaker r _ _ (λ now z f. z) a.start;
   }
 
 -- ---- visiting
@@ -278,15 +270,15 @@ module _ {o : Offered} {st₀ : State} {b₀ : Buffers} {row start first : ℕ} 
     pub visit_falls : unplaced now.starts ≤ unplaced st₀.starts
     visit_falls = grown_unplaced pre.asks.valid inv.valid inv.grown
 
-    pub visit_done : function_slots o.functions row ≤ slot → Visited o st₀ b₀ row start (record { judged = Passes; state = now }) b
+    pub visit_done : function_slots o.functions row ≤ slot → Visited o st₀ b₀ row start (Ok now) b
     visit_done l = record {
-      valid = λ z. inv.valid;
-      grown = λ z. inv.grown;
+      valid = inv.valid;
+      grown = inv.grown;
       lengths = inv.lengths;
       agrees = λ root s₀ h.
           let left = inv.left root s₀ h in
-          subst (Agrees o root (record { judged = Passes; state = now }) b)
-          (sym (left.same ∙ visit_over o (lent_by b₀) root row start (function_slots o.functions row) slot left.s l)) (refl, left.holds);
+          subst (Agrees o root (Ok now) b)
+          (sym (left.same ∙ visit_over o (lent_by b₀) root row start (function_slots o.functions row) slot left.s l)) left.holds;
     }
 
     module _ (turn : slot < function_slots o.functions row) where
@@ -312,12 +304,12 @@ module _ {o : Offered} {st₀ : State} {b₀ : Buffers} {row start first : ℕ} 
       }
 
       pub visit_out : (a : told.Refusal) (n : ℕ) → meaning (object_of (tables_of little o)) row slot ≡ refused n → refused_reply a ≡ reply n row slot 0
-          → Visited o st₀ b₀ row start (record { judged = Refused a; state = now }) b
+          → Visited o st₀ b₀ row start (Err a) b
       visit_out a n e is = record {
-        valid = λ z. some_not_none z;
-        grown = λ z. some_not_none z;
+        valid = tt;
+        grown = tt;
         lengths = inv.lengths;
-        agrees = λ root s₀ h. subst (Agrees o root (record { judged = Refused a; state = now }) b) (sym (turned (refused n) e root s₀ h)) (ap some is);
+        agrees = λ root s₀ h. subst (Agrees o root (Err a) b) (sym (turned (refused n) e root s₀ h)) is;
       }
 
       -- a callee, called or referred to
@@ -341,77 +333,77 @@ module _ {o : Offered} {st₀ : State} {b₀ : Buffers} {row start first : ℕ} 
         unfolding rest
         pointed root s₀ h = turned (cond reference? (reference callee) (call callee)) means root s₀ h ∙ at_callee reference? root (inv.left root s₀ h).s
 
-        module _ (r : Step) (b' : Buffers) (placed : Placed o now b callee r b') where
-          agreed : (root : ℕ) (s : Link.State) → Holds o root now b s → Agrees o root r b' (placing o (lent_by b₀) root (start_of callee s.placed) callee s)
-          agreed root s h = subst (λ lent. Agrees o root r b' (placing o lent root (start_of callee s.placed) callee s)) inv.lengths (placed.gives.agrees root s h)
+        agreed : (r : Result State told.Refusal) (b' : Buffers) → Placed o now b callee r b' → (root : ℕ) (s : Link.State) → Holds o root now b s
+            → Agrees o root r b' (placing o (lent_by b₀) root (start_of callee s.placed) callee s)
+        agreed r b' placed root s h = subst (λ lent. Agrees o root r b' (placing o lent root (start_of callee s.placed) callee s)) inv.lengths (placed.gives.agrees root s h)
 
-          pub visit_refused : (Passed r → ⊥) → Visited o st₀ b₀ row start r b'
-          visit_refused bad = record {
-            valid = λ z. absurd (bad z);
-            grown = λ z. absurd (bad z);
-            lengths = placed.gives.lengths ∙ inv.lengths;
-            agrees = λ root s₀ h.
-                let s = (inv.left root s₀ h).s in
-                subst (Agrees o root r b') (sym (pointed root s₀ h)) (go root (placing o (lent_by b₀) root (start_of callee s.placed) callee s) (λ after. rest root (rewritten (start + slot) (pointing reference? (start_for (start_of callee s.placed) s) (start + slot)) after)) (agreed root s (inv.left root s₀ h).holds));
+        pub visit_refused : (why : told.Refusal) (b' : Buffers) → Placed o now b callee (Err why) b' → Visited o st₀ b₀ row start (Err why) b'
+        visit_refused why b' placed = record {
+          valid = tt;
+          grown = tt;
+          lengths = placed.gives.lengths ∙ inv.lengths;
+          agrees = λ root s₀ h.
+              let s = (inv.left root s₀ h).s in
+              subst (Agrees o root (Err why) b') (sym (pointed root s₀ h)) (go root (placing o (lent_by b₀) root (start_of callee s.placed) callee s) (λ after. rest root (rewritten (start + slot) (pointing reference? (start_for (start_of callee s.placed) s) (start + slot)) after)) (agreed (Err why) b' placed root s (inv.left root s₀ h).holds));
+        }
+          where
+            go : (root : ℕ) (out : Outcome) (next : Link.State → Outcome) → Agrees o root (Err why) b' out → Agrees o root (Err why) b' (and_then out next)
+            go root (linked s') next a = absurd a
+            go root (refuses it) next a = a
+            go root unfinished next a = a
+
+        module _ (later : State) (b' : Buffers) (placed : Placed o now b callee (Ok later) b') where
+          -- the start that the array has now
+          to : ℕ
+          to = get_or later.starts callee 0
+
+          pub to_low : get_or later.starts callee 0 < most_image_slots
+          to_low = placed.gives.valid.starts callee
+
+          pub still_in : start + slot < later.used.slots
+          still_in = omega (arith, here_in, placed.gives.grown.slots)
+
+          pub room_here : 8 * (start + slot) + 8 ≤ length b'.image
+          room_here = omega (arith, still_in, placed.gives.valid.slots)
+
+          abbrev rewritten_buffers : Buffers
+          rewritten_buffers = buffers (pointed_to reference? b'.image (start + slot) (get_or later.starts callee 0)) b'.funcs b'.lines
+
+          -- it is the one that the link step points to
+          to_is : (root : ℕ) (s s' : Link.State) (p : Option ℕ) → start_of callee s.placed ≡ p → Holds o root now b s → Holds o root later b' s'
+              → placing o (lent_by b₀) root p callee s ≡ linked s' → get_or later.starts callee 0 ≡ start_for p s
+          to_is root s s' none e h h' out = placed.start (h.starts callee callee_row ∙ ap start_number e) ∙ h.slots
+          to_is root s s' (some q) e h h' out =
+              let same : s ≡ s' = cc in
+              h'.starts callee callee_row ∙ ap (λ x. start_number (start_of callee x.placed)) (sym same) ∙ ap start_number e
+
+          after_left : (root : ℕ) (s₀ : Link.State) (h : Holds o root st₀ b₀ s₀) (s : Link.State) (h₁ : Holds o root now b s) (out : Outcome)
+              → placing o (lent_by b₀) root (start_of callee s.placed) callee s ≡ out → Agrees o root (Ok later) b' out
+              → visiting o (lent_by b₀) root row start (function_slots o.functions row) 0 s₀
+              ≡ and_then out (λ after. rest root (rewritten (start + slot) (pointing reference? (start_for (start_of callee s.placed) s) (start + slot)) after))
+              → Left o root (lent_by b₀) row start (function_slots o.functions row) (slot + 1) s₀ later
+              (buffers (pointed_to reference? b'.image (start + slot) (get_or later.starts callee 0)) b'.funcs b'.lines)
+          unfolding rest
+          after_left root s₀ h s h₁ (linked s') e h' q =
+              let t = to_is root s s' (start_of callee s.placed) refl h₁ h' e in
+              record {
+                s = rewritten (start + slot) (pointing reference? (get_or later.starts callee 0) (start + slot)) s';
+                holds = point_holds placed.gives.valid reference? (start + slot) (get_or later.starts callee 0) still_in to_low h';
+                same = q ∙ ap (λ n. visiting o (lent_by b₀) root row start (function_slots o.functions row - (slot + 1)) (slot + 1) (rewritten (start + slot) (pointing reference? n (start + slot)) s')) (sym t);
+              }
+          after_left root s₀ h s h₁ (refuses why) e is q = absurd is
+          after_left root s₀ h s h₁ unfinished e a q = absurd a
+
+          pub visit_pointed : Inv o st₀ b₀ row start (function_slots o.functions row) later
+              (buffers (pointed_to reference? b'.image (start + slot) (get_or later.starts callee 0)) b'.funcs b'.lines) (slot + 1)
+          visit_pointed = record {
+            within = omega arith;
+            valid = point_valid placed.gives.valid reference? (start + slot) (get_or later.starts callee 0) still_in to_low;
+            grown = grown_trans inv.grown placed.gives.grown;
+            lengths = lens ∙ placed.gives.lengths ∙ inv.lengths;
+            left = λ root s₀ h. let l = inv.left root s₀ h in
+                after_left root s₀ h l.s l.holds (placing o (lent_by b₀) root (start_of callee l.s.placed) callee l.s) refl (agreed (Ok later) b' placed root l.s l.holds) (pointed root s₀ h);
           }
             where
-              go : (root : ℕ) (out : Outcome) (next : Link.State → Outcome) → Agrees o root r b' out → Agrees o root r b' (and_then out next)
-              go root (linked s') next (e, h) = absurd (bad e)
-              go root (refuses why) next a = a
-              go root unfinished next a = a
-
-          module _ (done : Passed r) where
-            -- the start that the array has now
-            to : ℕ
-            to = get_or r.state.starts callee 0
-
-            pub to_low : get_or r.state.starts callee 0 < most_image_slots
-            to_low = (placed.gives.valid done).starts callee
-
-            pub still_in : start + slot < r.state.used.slots
-            still_in = omega (arith, here_in, (placed.gives.grown done).slots)
-
-            pub room_here : 8 * (start + slot) + 8 ≤ length b'.image
-            room_here = omega (arith, still_in, (placed.gives.valid done).slots)
-
-            abbrev rewritten_buffers : Buffers
-            rewritten_buffers = buffers (pointed_to reference? b'.image (start + slot) (get_or r.state.starts callee 0)) b'.funcs b'.lines
-
-            -- it is the one that the link step points to
-            to_is : (root : ℕ) (s s' : Link.State) (p : Option ℕ) → start_of callee s.placed ≡ p → Holds o root now b s → Holds o root r.state b' s'
-                → placing o (lent_by b₀) root p callee s ≡ linked s' → get_or r.state.starts callee 0 ≡ start_for p s
-            to_is root s s' none e h h' out = placed.start done (h.starts callee callee_row ∙ ap start_number e) ∙ h.slots
-            to_is root s s' (some q) e h h' out =
-                let same : s ≡ s' = cc in
-                h'.starts callee callee_row ∙ ap (λ x. start_number (start_of callee x.placed)) (sym same) ∙ ap start_number e
-
-            after_left : (root : ℕ) (s₀ : Link.State) (h : Holds o root st₀ b₀ s₀) (s : Link.State) (h₁ : Holds o root now b s) (out : Outcome)
-                → placing o (lent_by b₀) root (start_of callee s.placed) callee s ≡ out → Agrees o root r b' out
-                → visiting o (lent_by b₀) root row start (function_slots o.functions row) 0 s₀
-                ≡ and_then out (λ after. rest root (rewritten (start + slot) (pointing reference? (start_for (start_of callee s.placed) s) (start + slot)) after))
-                → Left o root (lent_by b₀) row start (function_slots o.functions row) (slot + 1) s₀ r.state
-                (buffers (pointed_to reference? b'.image (start + slot) (get_or r.state.starts callee 0)) b'.funcs b'.lines)
-            unfolding rest
-            after_left root s₀ h s h₁ (linked s') e (is, h') q =
-                let t = to_is root s s' (start_of callee s.placed) refl h₁ h' e in
-                record {
-                  s = rewritten (start + slot) (pointing reference? (get_or r.state.starts callee 0) (start + slot)) s';
-                  holds = point_holds (placed.gives.valid done) reference? (start + slot) (get_or r.state.starts callee 0) still_in to_low h';
-                  same = q ∙ ap (λ n. visiting o (lent_by b₀) root row start (function_slots o.functions row - (slot + 1)) (slot + 1) (rewritten (start + slot) (pointing reference? n (start + slot)) s')) (sym t);
-                }
-            after_left root s₀ h s h₁ (refuses why) e is q = some_not_none (sym is ∙ done)
-            after_left root s₀ h s h₁ unfinished e a q = absurd a
-
-            pub visit_pointed : Inv o st₀ b₀ row start (function_slots o.functions row) r.state
-                (buffers (pointed_to reference? b'.image (start + slot) (get_or r.state.starts callee 0)) b'.funcs b'.lines) (slot + 1)
-            visit_pointed = record {
-              within = omega arith;
-              valid = point_valid (placed.gives.valid done) reference? (start + slot) (get_or r.state.starts callee 0) still_in to_low;
-              grown = grown_trans inv.grown (placed.gives.grown done);
-              lengths = lens ∙ placed.gives.lengths ∙ inv.lengths;
-              left = λ root s₀ h. let l = inv.left root s₀ h in
-                  after_left root s₀ h l.s l.holds (placing o (lent_by b₀) root (start_of callee l.s.placed) callee l.s) refl (agreed root l.s l.holds) (pointed root s₀ h);
-            }
-              where
-                lens : lent_by (buffers (pointed_to reference? b'.image (start + slot) (get_or r.state.starts callee 0)) b'.funcs b'.lines) ≡ lent_by b'
-                lens = rw (point_length b'.image (start + slot) (get_or r.state.starts callee 0) (8 * r.state.used.slots) (omega (arith, to_low)) (omega (arith, still_in, (placed.gives.valid done).most)) (omega (arith, still_in)) (placed.gives.valid done).slots reference?)
+              lens : lent_by (buffers (pointed_to reference? b'.image (start + slot) (get_or later.starts callee 0)) b'.funcs b'.lines) ≡ lent_by b'
+              lens = rw (point_length b'.image (start + slot) (get_or later.starts callee 0) (8 * later.used.slots) (omega (arith, to_low)) (omega (arith, still_in, placed.gives.valid.most)) (omega (arith, still_in)) placed.gives.valid.slots reference?)

@@ -12,9 +12,8 @@ use lib.Dec.{eqb}
 use lib.ListN.{length, get_or, set}
 use Rattle.rules.specs.declared.Refusal as told
 use Rattle.rules.specs.declared.Cause.TheVariants.{NoRoom, LineOutside}
-use Rattle.rules.specs.declared.Judgement.TheVariants as judgement
-use Rattle.rules.specs.declared.Found.{Found}
-use Rattle.rules.specs.declared.Found.TheVariants.{At, Nothing}
+use Rattle.std.specs.Prelude as prelude
+use Rattle.std.specs.Prelude.{Result, Ok, Err, Some, None}
 use Rattle.rules.specs.declared.Table.TheVariants.{Functions, Relocations, LineInfo}
 use Rattle.rules.specs.Object.{meaning}
 use Rattle.rules.specs.Bytes.{little}
@@ -31,13 +30,11 @@ use Rattle.merge.proofs.Checked.{checked_parts, lined}
 use Rattle.merge.proofs.Strays.{stray_low}
 use Rattle.resolve.specs.Means.{Means}
 use Rattle.resolve.specs.Resolves.{Resolves}
-use Rattle.resolve.specs.declared.Meaning as judged
-use Rattle.resolve.specs.declared.Meaning.TheVariants.{Copied, Points, Refused}
+use Rattle.resolve.specs.declared.Pointer.{Pointer}
 use Rattle.resolve.proofs.Laws.{only_code, meaning_alike, checked_alike, points_inside}
 use Rattle.linker.specs.declared.State.{State}
-use Rattle.linker.specs.declared.Step.{Step}
 use Rattle.rules.specs.Lent.{Buffers, buffers, parts_offer}
-use Rattle.linker.specs.Linker.{unplaced, Asks, Adds, Added, Passed, Placed, Visits, Visited, pointed_to}
+use Rattle.linker.specs.Linker.{unplaced, Asks, Adds, Added, Placed, Visits, Visited, pointed_to}
 use Rattle.linker.proofs.Extending.{state_more, buffers_more}
 use Rattle.linker.proofs.Admitting.{room_of, no_room, strays, admitted}
 use Rattle.rows.proofs.Cursor.{Behind, behind_on, behind_first, behind_more, at_end, at_row, at_later}
@@ -81,7 +78,7 @@ module _ {o : Offered} {st : State} {b : Buffers} {row : ℕ} (pre : Adds o st b
   add_lined part begins = lined o row part parts begins
 
   pub out_of_room : room_bytes o.functions (length b.image) (length b.funcs) (length b.lines) st.used row ≡ false
-      → (r : told.Refusal) → refused_reply r ≡ reply (number_of NoRoom) row 0 0 → Added o st b row (record { judged = judgement.Refused r; state = st }) b
+      → (r : told.Refusal) → refused_reply r ≡ reply (number_of NoRoom) row 0 0 → Added o st b row (Err r) b
   out_of_room e r is = add_refused pre r (refusal 11 row 0) is (λ root s h. no_room pre.asks.checked row pre.asks.row_in h e)
 
   module _ (room : room_bytes o.functions (length b.image) (length b.funcs) (length b.lines) st.used row ≡ true) where
@@ -95,7 +92,7 @@ module _ {o : Offered} {st : State} {b : Buffers} {row : ℕ} (pre : Adds o st b
         )
 
     pub line_strays : (k : ℕ) → stray_in o.functions o.line_info row ≡ some k
-        → (r : told.Refusal) → refused_reply r ≡ reply (number_of LineOutside) row k 0 → Added o st b row (record { judged = judgement.Refused r; state = st }) b
+        → (r : told.Refusal) → refused_reply r ≡ reply (number_of LineOutside) row k 0 → Added o st b row (Err r) b
     line_strays k e r is = add_refused pre r (refusal 12 row k) is (λ root s h. strays pre.asks.checked row pre.asks.row_in h k room e)
 
     module _ (none_strays : stray_in o.functions o.line_info row ≡ none) where
@@ -139,7 +136,7 @@ module _ {o : Offered} {st : State} {b : Buffers} {row : ℕ} (pre : Adds o st b
         pub next_falls : unplaced (set st.starts row st.used.slots) < unplaced st.starts
         next_falls = add_falls pre (room_of pre.asks.checked row pre.asks.row_in st.used b room) (λ root s h. admitted pre.asks.checked row pre.asks.row_in h room none_strays)
 
-        pub next_done : (r : Step) (b' : Buffers) {start : ℕ} → start ≡ st.used.slots
+        pub next_done : (r : Result State told.Refusal) (b' : Buffers) {start : ℕ} → start ≡ st.used.slots
             → Visited o (record { starts = set st.starts row st.used.slots; used = more }) (buffers i f l) row start r b' → Added o st b row r b'
         next_done r b' at v =
             add_done pre (room_of pre.asks.checked row pre.asks.row_in st.used b room) (λ root s h. admitted pre.asks.checked row pre.asks.row_in h room none_strays) r b'
@@ -174,16 +171,16 @@ module _ {o : Offered} {st : State} {b : Buffers} {row start first : ℕ} (pre :
     goes_on e t = behind_more o.relocations (function_section o.functions row) place cur behind (sym (belows e) ∙ t)
 
     pub found_row' : cur < whole_rows Relocations o.relocations → {x : Bool} → x ≡ (eqb (relocation_section o.relocations cur) home && eqb (relocation_offset o.relocations cur) at) → x ≡ true
-        → At cur ≡ found_of (relocation_with o.relocations (function_section o.functions row) place)
+        → Some cur ≡ found_of (relocation_with o.relocations (function_section o.functions row) place)
     found_row' l e t = sym (ap found_of (at_row o.relocations (function_section o.functions row) place cur behind l (sym (heres e) ∙ t)))
 
     pub found_later' : cur < whole_rows Relocations o.relocations → {x : Bool} → x ≡ (eqb (relocation_section o.relocations cur) home && eqb (relocation_offset o.relocations cur) at) → x ≡ false
-        → {y : Bool} → y ≡ below (relocation_section o.relocations cur) (relocation_offset o.relocations cur) home at → y ≡ false → Nothing ≡ found_of (relocation_with o.relocations (function_section o.functions row) place)
+        → {y : Bool} → y ≡ below (relocation_section o.relocations cur) (relocation_offset o.relocations cur) home at → y ≡ false → None ≡ found_of (relocation_with o.relocations (function_section o.functions row) place)
     found_later' l e t d u =
         sym (ap found_of (at_later o.relocations (function_section o.functions row) place cur behind pre.asks.checked.tables.relocations l (sym (belows d) ∙ u) (sym (heres e) ∙ t)))
 
   module _ {now : State} {b' : Buffers} {slot : ℕ} (inv : Inv o st b row start (function_slots o.functions row) now b' slot) (turn : slot < function_slots o.functions row) where
-    pub resolves : (rel : Found) → rel ≡ found_of (relocation_with o.relocations (function_section o.functions row) (function_offset o.functions row + 8 * slot))
+    pub resolves : (rel : prelude.Option ℕ) → rel ≡ found_of (relocation_with o.relocations (function_section o.functions row) (function_offset o.functions row + 8 * slot))
         → Resolves (only_code o) row first slot rel
     resolves rel q = record {
       tables = checked_alike o pre.asks.checked.tables;
@@ -197,49 +194,44 @@ module _ {o : Offered} {st : State} {b : Buffers} {row start first : ℕ} (pre :
     same = meaning_alike o row slot
 
     -- what the judgement of a slot is, by what it came to
-    by : {m n : judged.Meaning} → m ≡ n → Means row slot m (meaning (object_of (tables_of little (only_code o))) row slot)
+    pub by : {m n : Result (prelude.Option Pointer) told.Refusal} → m ≡ n → Means row slot m (meaning (object_of (tables_of little (only_code o))) row slot)
         → Means row slot n (meaning (object_of (tables_of little (only_code o))) row slot)
     by e h = subst (λ x. Means row slot x (meaning (object_of (tables_of little (only_code o))) row slot)) e h
 
-    pub on_copied : {m : judged.Meaning} → m ≡ Copied → Means row slot m (meaning (object_of (tables_of little (only_code o))) row slot)
+    pub on_copied : {m : Result (prelude.Option Pointer) told.Refusal} → m ≡ Ok None → Means row slot m (meaning (object_of (tables_of little (only_code o))) row slot)
         → Inv o st b row start (function_slots o.functions row) now b' (slot + 1)
     on_copied e m = visit_copied pre inv turn (same ∙ by e m)
 
-    pub on_refused : (a : told.Refusal) {m : judged.Meaning} → m ≡ Refused a → Means row slot m (meaning (object_of (tables_of little (only_code o))) row slot)
-        → Visited o st b row start (record { judged = judgement.Refused a; state = now }) b'
+    pub on_refused : (a : told.Refusal) {m : Result (prelude.Option Pointer) told.Refusal} → m ≡ Err a → Means row slot m (meaning (object_of (tables_of little (only_code o))) row slot)
+        → Visited o st b row start (Err a) b'
     on_refused a e m = visit_out pre inv turn a (refused_reply a).number (same ∙ (by e m).refusal) (by e m).places
 
-    module _ (callee : ℕ) (refers : Bool) {it : judged.Meaning} (is : it ≡ Points callee refers)
-        (means : Means row slot it (meaning (object_of (tables_of little (only_code o))) row slot)) where
-      m : Means row slot (Points callee refers) (meaning (object_of (tables_of little (only_code o))) row slot)
-      m = by is means
+    module _ (p : Pointer) (means : Means row slot (Ok (Some p)) (meaning (object_of (tables_of little (only_code o))) row slot)) where
+      callee_row : p.callee < whole_rows Functions o.functions
+      callee_row = points_inside (only_code o) row slot p means
 
-      callee_row : callee < whole_rows Functions o.functions
-      callee_row = points_inside (only_code o) row slot callee refers m
+      pub asks_placed : Asks o now b' p.callee
+      asks_placed = visit_asks pre inv turn p.reference p.callee (same ∙ means) callee_row
 
-      pub asks_placed : Asks o now b' callee
-      asks_placed = visit_asks pre inv turn refers callee (same ∙ m) callee_row
+      pub out_refused : {why : told.Refusal} {b'' : Buffers} → Placed o now b' p.callee (Err why) b'' → Visited o st b row start (Err why) b''
+      out_refused {why} {b''} placed = visit_refused pre inv turn p.reference p.callee (same ∙ means) callee_row why b'' placed
 
-      module _ {step : Step} {b'' : Buffers} (placed : Placed o now b' callee step b'') where
-        pub out_refused : (Passed step → ⊥) → Visited o st b row start step b''
-        out_refused n = visit_refused pre inv turn refers callee (same ∙ m) callee_row step b'' placed n
+      module _ {later : State} {b'' : Buffers} (placed : Placed o now b' p.callee (Ok later) b'') where
+        pub start_low : get_or later.starts p.callee 0 < most_image_slots
+        start_low = to_low pre inv turn p.reference p.callee (same ∙ means) callee_row later b'' placed
 
-        module _ (done : Passed step) where
-          pub start_low : get_or step.state.starts callee 0 < most_image_slots
-          start_low = to_low pre inv turn refers callee (same ∙ m) callee_row step b'' placed done
+        pub here_room : 8 * (start + slot) + 8 ≤ length b''.image
+        here_room = room_here pre inv turn p.reference p.callee (same ∙ means) callee_row later b'' placed
 
-          pub here_room : 8 * (start + slot) + 8 ≤ length b''.image
-          here_room = room_here pre inv turn refers callee (same ∙ m) callee_row step b'' placed done
+        pub here_low : start + slot < most_image_slots
+        here_low = omega (arith, still_in pre inv turn p.reference p.callee (same ∙ means) callee_row later b'' placed, placed.gives.valid.most)
 
-          pub here_low : start + slot < most_image_slots
-          here_low = omega (arith, still_in pre inv turn refers callee (same ∙ m) callee_row step b'' placed done, (placed.gives.valid done).most)
-
-          pub on_pointed : {here to : ℕ} (image : List ℕ) → here ≡ start + slot → to ≡ get_or step.state.starts callee 0 → image ≡ pointed_to refers b''.image here to
-              → Inv o st b row start (function_slots o.functions row) step.state (buffers image b''.funcs b''.lines) (slot + 1)
-          on_pointed {here} {to} image p q e =
-              subst (λ x. Inv o st b row start (function_slots o.functions row) step.state (buffers x b''.funcs b''.lines) (slot + 1))
-              (sym (e ∙ ap (λ n. pointed_to refers b''.image n to) p ∙ ap (pointed_to refers b''.image (start + slot)) q))
-              (visit_pointed pre inv turn refers callee (same ∙ m) callee_row step b'' placed done)
+        pub on_pointed : {here to : ℕ} (image : List ℕ) → here ≡ start + slot → to ≡ get_or later.starts p.callee 0 → image ≡ pointed_to p.reference b''.image here to
+            → Inv o st b row start (function_slots o.functions row) later (buffers image b''.funcs b''.lines) (slot + 1)
+        on_pointed {here} {to} image x q e =
+            subst (λ y. Inv o st b row start (function_slots o.functions row) later (buffers y b''.funcs b''.lines) (slot + 1))
+            (sym (e ∙ ap (λ n. pointed_to p.reference b''.image n to) x ∙ ap (pointed_to p.reference b''.image (start + slot)) q))
+            (visit_pointed pre inv turn p.reference p.callee (same ∙ means) callee_row later b'' placed)
 
   pub rows_of : (k : ℕ) → k < whole_rows Relocations o.relocations → row_size Relocations * k + row_size Relocations ≤ length o.relocations
   rows_of k l = omega (arith, whole Relocations o.relocations pre.asks.checked.tables.relocations)
@@ -254,5 +246,5 @@ module _ {o : Offered} {st : State} {b : Buffers} {row start first : ℕ} (pre :
   slots_low = (good_function o.functions pre.asks.checked.tables.functions row pre.asks.row_in).slots_high
 
   -- what the search found
-  pub found_end : (place cur : ℕ) → Behind o.relocations (function_section o.functions row) place cur → whole_rows Relocations o.relocations ≤ cur → Nothing ≡ found_of (relocation_with o.relocations (function_section o.functions row) place)
+  pub found_end : (place cur : ℕ) → Behind o.relocations (function_section o.functions row) place cur → whole_rows Relocations o.relocations ≤ cur → None ≡ found_of (relocation_with o.relocations (function_section o.functions row) place)
   found_end place cur behind l = sym (ap found_of (at_end o.relocations (function_section o.functions row) place cur behind l))

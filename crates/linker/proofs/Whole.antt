@@ -10,8 +10,8 @@ use native.Mathlib.Omega.{arith}
 use native.Mathlib.Decide.{dec_lt}
 use lib.ListN.{length, get_or, take, drop, replicate, length-replicate, take-append-drop, get_or-replicate, get_or-eq_default}
 use lib.Seq.{length-take-le, get_or-take}
-use Rattle.rules.specs.declared.Answer.{Answer}
-use Rattle.rules.specs.declared.Answer.TheVariants.{Done, Refused}
+use Rattle.std.specs.Prelude.{Result, Ok, Err, IfOk, IfErr}
+use Rattle.rules.specs.declared.Places.{Places}
 use Rattle.rules.specs.declared.Cause.TheVariants.{NoRoom}
 use Rattle.rules.specs.declared.Refusal as told
 use Rattle.rules.specs.declared.Table.TheVariants.{Functions}
@@ -20,7 +20,7 @@ use Rattle.rules.specs.Link as Link
 use Rattle.rules.specs.Link.{Refusal, refusal, Outcome, linked, refuses, unfinished, run, start_of, slots_of, root_only, unless, visit, link}
 use Rattle.rules.specs.Tables.{function_records_of, lines_of, object_of}
 use Rattle.rules.specs.Records.{image_functions, image_lines, root_admits, link_step}
-use Rattle.rules.specs.Answers.{Reply, reply, number_of, reply_of, refused_reply, refusal_in}
+use Rattle.rules.specs.Answers.{Reply, reply, number_of, reply_of, refused_reply}
 use Rattle.rules.specs.Rows.{whole_rows, summed, Offered, function_slots, function_func_info, function_line_info, func_info_row, line_info_row, tables_of, link_refusal, most_rows}
 use Rattle.rules.specs.Lookups.{LinkChecked}
 use Rattle.rules.specs.Entries.{func_info_bytes, line_info_bytes, refusal_reply, room_in, refused_link, by_outcome, unless_link_refused, link_entry}
@@ -32,11 +32,10 @@ use Rattle.rules.proofs.Linking.{length_run}
 use Rattle.rules.proofs.Passed.{good_function}
 use Rattle.rules.proofs.Merging.{func_bytes_length, line_bytes_length}
 use Rattle.linker.specs.declared.State.{State}
-use Rattle.linker.specs.declared.Step.{Step}
 use Rattle.linker.specs.declared.Linked.{Linked}
 use Rattle.merge.specs.declared.Used.{Used}
 use Rattle.rules.specs.Lent.{Buffers, buffers, lent_by, parts_offer}
-use Rattle.linker.specs.Linker.{Valid, Holds, Passed, Agrees, visiting, Visits, Visited, Starts, Outcomes, Accounts, Ended, step_result, StartedOutcomes}
+use Rattle.linker.specs.Linker.{Valid, Holds, Agrees, visiting, Visits, Visited, Starts, Outcomes, Accounts, Wiped, Ended, step_result, StartedOutcomes}
 use Rattle.merge.specs.Merge.{slot_bytes, func_rows, line_rows, room_bytes, PartBegins, unused, Begins, Begun}
 use Rattle.merge.proofs.Checked.{checked_parts}
 use Rattle.linker.proofs.Extending.{slots_long, slots_are, own_functions, own_lines, object_slots, rest_next, Room}
@@ -176,14 +175,11 @@ module _ {o : Offered} {root : ℕ} {st : State} {b : Buffers} {s : Link.State} 
 some_not_none : {A : Type 0} {a : A} {X : Type 0} → some a ≡ none → X
 some_not_none e = let z : ◌≡◌ {A = ℕ} 0 1 = cc in absurd (omega arith)
 
-some_same : {x y : Reply} → some x ≡ some y → x ≡ y
-some_same e = cc
+abbrev placed_at : Used → Places
+placed_at used = record { 0 = used.slots; 1 = used.funcs; 2 = used.lines }
 
-refuses_not_linked : {why : Refusal} {s : Link.State} {X : Type 0} → refuses why ≡ linked s → X
-refuses_not_linked e = let z : ◌≡◌ {A = ℕ} 0 1 = cc in absurd (omega arith)
-
-abbrev answers : Answer → List ℕ → Linked
-answers a starts = record { answer = a; starts = starts }
+abbrev links : State → Linked
+links st = record { places = placed_at st.used; starts = st.starts }
 
 module _ {o : Offered} {root : ℕ} {b : Buffers} (pre : Starts o root b) where
   zeroes : Zeroed b
@@ -198,12 +194,12 @@ module _ {o : Offered} {root : ℕ} {b : Buffers} (pre : Starts o root b) where
 
   -- 11: the root has no room
   pub root_refused : room_bytes o.functions (length b.image) (length b.funcs) (length b.lines) unused root ≡ false
-      → (r : told.Refusal) → refused_reply r ≡ reply (number_of NoRoom) root 0 0 → {starts : List ℕ} → Ended o root b b (answers (Refused r) starts)
+      → (r : told.Refusal) → refused_reply r ≡ reply (number_of NoRoom) root 0 0 → Ended o root b b (Err r)
   root_refused e r is = record {
     lengths = refl;
-    done = λ z. absurd (Replies.refuses r z);
-    refused = λ n. ap (by_outcome little (tables_of little o) root (lent_by b)) (step_by (some (refusal 11 root 0)) (room_fails pre.checked root pre.root_in (lent_by b) unused e)) ∙ ap (refused_link (lent_by b)) (sym is);
-    accounts = λ s f. refuses_not_linked (sym (step_by (some (refusal 11 root 0)) (room_fails pre.checked root pre.root_in (lent_by b) unused e)) ∙ f);
+    done = tt;
+    refused = ap (by_outcome little (tables_of little o) root (lent_by b)) (step_by (some (refusal 11 root 0)) (room_fails pre.checked root pre.root_in (lent_by b) unused e)) ∙ ap (refused_link (lent_by b)) (sym is);
+    accounts = tt;
   }
 
   module _ (enough : room_bytes o.functions (length b.image) (length b.funcs) (length b.lines) unused root ≡ true) where
@@ -216,7 +212,7 @@ module _ {o : Offered} {root : ℕ} {b : Buffers} (pre : Starts o root b) where
     lens : lent_by (first_buffers o root b) ≡ lent_by b
     lens = first_lengths pre.checked root pre.root_in b zeroes root_room
 
-    module _ (r : Step) (b' : Buffers) (v : Visited o (first_state o root) (first_buffers o root b) root 0 r b') where
+    module _ (r : Result State told.Refusal) (b' : Buffers) (v : Visited o (first_state o root) (first_buffers o root b) root 0 r b') where
       visited : Agrees o root r b' (link_step (tables_of little o) (room_in (lent_by b)) root)
       visited =
           subst (Agrees o root r b') (sym (step_by none (room_passes pre.checked root pre.root_in (lent_by b) unused enough)))
@@ -226,74 +222,69 @@ module _ {o : Offered} {root : ℕ} {b : Buffers} (pre : Starts o root b) where
       pub all_lengths : lent_by b' ≡ lent_by b
       all_lengths = v.lengths ∙ lens
 
-      -- the state that it ends in
-      ending : (s : Link.State) → link_step (tables_of little o) (room_in (lent_by b)) root ≡ linked s → Agrees o root r b' (linked s)
-      ending s e = subst (Agrees o root r b') e visited
+    pub link_refused : (why : told.Refusal) (b' : Buffers) → Visited o (first_state o root) (first_buffers o root b) root 0 (Err why) b' → Ended o root b b' (Err why)
+    link_refused why b' v = record {
+      lengths = all_lengths (Err why) b' v;
+      done = tt;
+      refused = go (link_step (tables_of little o) (room_in (lent_by b)) root) (visited (Err why) b' v);
+      accounts = tt;
+    }
+      where
+        go : (out : Outcome) → Agrees o root (Err why) b' out → by_outcome little (tables_of little o) root (lent_by b) out ≡ refused_link (lent_by b) (refused_reply why)
+        go (linked s) a = absurd a
+        go (refuses it) e = ap (refused_link (lent_by b)) (sym e)
+        go unfinished a = absurd a
 
-      pub link_refused : (why : told.Refusal) → refusal_in r.judged ≡ some (refused_reply why) → {starts : List ℕ} → Ended o root b b' (answers (Refused why) starts)
-      link_refused why bad = record {
-        lengths = all_lengths;
-        done = λ z. absurd (Replies.refuses why z);
-        refused = λ n. go (link_step (tables_of little o) (room_in (lent_by b)) root) visited;
-        accounts = λ s e. some_not_none (sym bad ∙ (ending s e).0);
+    module _ (st : State) (b' : Buffers) (v : Visited o (first_state o root) (first_buffers o root b) root 0 (Ok st) b') (are : AreBytes b'.image) where
+      accounted : (s : Link.State) → Agrees o root (Ok st) b' (linked s) → Accounts o s st.starts
+      accounted s h = record { starts_are = h.starts; few = omega (arith, h.slots, v.valid.most) }
+
+      pub link_done : Ended o root b b' (Ok (links st))
+      link_done = record {
+        lengths = all_lengths (Ok st) b' v;
+        done = go (link_step (tables_of little o) (room_in (lent_by b)) root) (visited (Ok st) b' v);
+        refused = tt;
+        accounts = λ s e. accounted s (subst (Agrees o root (Ok st) b') e (visited (Ok st) b' v));
       }
         where
-          go : (out : Outcome) → Agrees o root r b' out → by_outcome little (tables_of little o) root (lent_by b) out ≡ refused_link (lent_by b) (refused_reply why)
-          go (linked s) (e, h) = some_not_none (sym bad ∙ e)
-          go (refuses it) e = let same : refusal_reply it ≡ refused_reply why = some_same (sym e ∙ bad) in ap (refused_link (lent_by b)) same
+          go : (out : Outcome) → Agrees o root (Ok st) b' out
+              → Outcomes b' (Ok (placed_at st.used)) (by_outcome little (tables_of little o) root (lent_by b) out)
+          go (linked s) h =
+              let kept : lent_by b' ≡ lent_by b = all_lengths (Ok st) b' v in
+              record {
+                reply = rw (h.slots, h.funcs_count, h.lines_count);
+                image = image_holds v.valid h are ∙ ap (λ n. padded n (encoded little s.image)) (ap (λ x. x.image) kept);
+                funcs = funcs_hold v.valid h are ∙ ap (λ n. padded n (func_info_bytes little (image_functions (tables_of little o) root s.placed))) (ap (λ x. x.func_info) kept);
+                lines = lines_hold v.valid h are ∙ ap (λ n. padded n (line_info_bytes little (image_lines (tables_of little o) root s.placed))) (ap (λ x. x.line_info) kept);
+              }
+          go (refuses why) e = absurd e
           go unfinished a = absurd a
-
-      module _ (ok : Passed r) (are : AreBytes b'.image) where
-        abbrev ends : Answer
-        ends = Done (record { 0 = r.state.used.slots; 1 = r.state.used.funcs; 2 = r.state.used.lines })
-
-        accounted : (s : Link.State) → Agrees o root r b' (linked s) → Accounts o s r.state.starts
-        accounted s (e, h) = record { starts_are = h.starts; few = omega (arith, h.slots, (v.valid ok).most) }
-
-        pub link_done : Ended o root b b' (answers (Done (record { 0 = r.state.used.slots; 1 = r.state.used.funcs; 2 = r.state.used.lines })) r.state.starts)
-        link_done = record {
-          lengths = all_lengths;
-          done = λ z. go (link_step (tables_of little o) (room_in (lent_by b)) root) visited;
-          refused = λ n. absurd (n refl);
-          accounts = λ s e. accounted s (ending s e);
-        }
-          where
-            go : (out : Outcome) → Agrees o root r b' out
-                → Outcomes b' ends (by_outcome little (tables_of little o) root (lent_by b) out)
-            go (linked s) (e, h) = record {
-              reply = rw (h.slots, h.funcs_count, h.lines_count);
-              image = image_holds (v.valid ok) h are ∙ ap (λ n. padded n (encoded little s.image)) (ap (λ x. x.image) all_lengths);
-              funcs = funcs_hold (v.valid ok) h are ∙ ap (λ n. padded n (func_info_bytes little (image_functions (tables_of little o) root s.placed))) (ap (λ x. x.func_info) all_lengths);
-              lines = lines_hold (v.valid ok) h are ∙ ap (λ n. padded n (line_info_bytes little (image_lines (tables_of little o) root s.placed))) (ap (λ x. x.line_info) all_lengths);
-            }
-            go (refuses why) e = some_not_none (sym e ∙ ok)
-            go unfinished a = absurd a
 
 -- ---- with the check before it and the wiping after
 pub zeros_padded : (n : ℕ) → replicate n 0 ≡ padded n []
 unfolding padded
 zeros_padded n = let e : n ≡ n - 0 = omega arith in ap (λ m. replicate m 0) e
 
-module _ (o : Offered) (root : ℕ) (b b' : Buffers) (zi : b'.image ≡ replicate (length b.image) 0) (zf : b'.funcs ≡ replicate (length b.funcs) 0) (zl : b'.lines ≡ replicate (length b.lines) 0) where
-  pub wiped : (r : Reply) (a : Answer) → reply_of a ≡ r → Outcomes b' a (refused_link (lent_by b) r)
+module _ (o : Offered) (root : ℕ) (b b' : Buffers) (w : Wiped b b') where
+  pub wiped : (r : Reply) (a : Result Places told.Refusal) → reply_of a ≡ r → Outcomes b' a (refused_link (lent_by b) r)
   wiped r a e = record {
     reply = e;
-    image = zi ∙ zeros_padded (length b.image);
-    funcs = zf ∙ zeros_padded (length b.funcs);
-    lines = zl ∙ zeros_padded (length b.lines);
+    image = w.image ∙ zeros_padded (length b.image);
+    funcs = w.funcs ∙ zeros_padded (length b.funcs);
+    lines = w.lines ∙ zeros_padded (length b.lines);
   }
 
   -- refused by the check
-  pub check_refused : (a : Answer) → link_refusal o root ≡ some (reply_of a) → Outcomes b' a (link_entry little o root (lent_by b))
+  pub check_refused : (a : Result Places told.Refusal) → link_refusal o root ≡ some (reply_of a) → Outcomes b' a (link_entry little o root (lent_by b))
   unfolding link_entry
   check_refused a e = subst (Outcomes b' a) (sym (ap (unless_link_refused little o root (lent_by b)) e)) (wiped (reply_of a) a refl)
 
   -- refused by the step
-  pub step_refused : (a : Answer) → link_refusal o root ≡ none → step_result o root (lent_by b) ≡ refused_link (lent_by b) (reply_of a) → Outcomes b' a (link_entry little o root (lent_by b))
+  pub step_refused : (a : Result Places told.Refusal) → link_refusal o root ≡ none → step_result o root (lent_by b) ≡ refused_link (lent_by b) (reply_of a) → Outcomes b' a (link_entry little o root (lent_by b))
   unfolding link_entry
   step_refused a e f = subst (Outcomes b' a) (sym (ap (unless_link_refused little o root (lent_by b)) e ∙ f)) (wiped (reply_of a) a refl)
 
-pub step_done : (o : Offered) (root : ℕ) (b b' : Buffers) (a : Answer) → link_refusal o root ≡ none → Outcomes b' a (step_result o root (lent_by b)) → Outcomes b' a (link_entry little o root (lent_by b))
+pub step_done : (o : Offered) (root : ℕ) (b b' : Buffers) (a : Result Places told.Refusal) → link_refusal o root ≡ none → Outcomes b' a (step_result o root (lent_by b)) → Outcomes b' a (link_entry little o root (lent_by b))
 unfolding link_entry
 step_done o root b b' a e f = subst (Outcomes b' a) (sym (ap (unless_link_refused little o root (lent_by b)) e)) f
 
@@ -328,20 +319,23 @@ module _ {o : Offered} {root : ℕ} {b : Buffers} (pre : Starts o root b) (enoug
         subst (λ n. Visits o (record { starts = no_starts; used = u }) (buffers i f l) root n first) (sym at)
         (subst (λ y. Visits o y (buffers i f l) root 0 first) state_is (subst (λ y. Visits o (first_state o root) y root 0 first) buffers_are (root_visits pre enough first e)))
 
-    module _ {r : Step} {b' : Buffers} {start : ℕ} (at : start ≡ 0) (v : Visited o (record { starts = no_starts; used = u }) (buffers i f l) root start r b') where
+    module _ {r : Result State told.Refusal} {b' : Buffers} {start : ℕ} (at : start ≡ 0) (v : Visited o (record { starts = no_starts; used = u }) (buffers i f l) root start r b') where
       back : Visited o (first_state o root) (first_buffers o root b) root 0 r b'
       back = subst (λ y. Visited o (first_state o root) y root 0 r b') (sym buffers_are) (subst (λ y. Visited o y (buffers i f l) root 0 r b') (sym state_is)
           (subst (λ n. Visited o (record { starts = no_starts; used = u }) (buffers i f l) root n r b') at v))
 
-      pub begun_refused : (why : told.Refusal) → refusal_in r.judged ≡ some (refused_reply why) → {starts : List ℕ} → Ended o root b b' (answers (Refused why) starts)
-      begun_refused why e = link_refused pre enough r b' back why e
+    -- the buffers that the caller sees at the end are those that the visit left
+    module _ {start : ℕ} {i' f' l' : List ℕ} (at : start ≡ 0) where
+      pub begun_refused : {why : told.Refusal} {b' : Buffers} → Visited o (record { starts = no_starts; used = u }) (buffers i f l) root start (Err why) b'
+          → i' ≡ b'.image → f' ≡ b'.funcs → l' ≡ b'.lines → Ended o root b (buffers i' f' l') (Err why)
+      begun_refused {why} {b'} v ei ef el =
+          subst (λ x. Ended o root b x (Err why)) (λ j. record { image = sym ei j; funcs = sym ef j; lines = sym el j }) (link_refused pre enough why b' (back at v))
 
-      pub begun_done : Passed r → AreBytes b'.image
-          → Ended o root b b' (answers (Done (record { 0 = r.state.used.slots; 1 = r.state.used.funcs; 2 = r.state.used.lines })) r.state.starts)
-      begun_done ok are = link_done pre enough r b' back ok are
-
-pub answer_refused : {a : Answer} {why : told.Refusal} → a ≡ Refused why → (reply_of a).number ≡ 0 → ⊥
-answer_refused {why = why} e z = Replies.refuses why (sym (ap (λ x. (reply_of x).number) e) ∙ z)
+      pub begun_done : {st : State} {b' : Buffers} → Visited o (record { starts = no_starts; used = u }) (buffers i f l) root start (Ok st) b' → AreBytes i'
+          → i' ≡ b'.image → f' ≡ b'.funcs → l' ≡ b'.lines → Ended o root b (buffers i' f' l') (Ok (links st))
+      begun_done {st} {b'} v are ei ef el =
+          subst (λ x. Ended o root b x (Ok (links st))) (λ j. record { image = sym ei j; funcs = sym ef j; lines = sym el j })
+          (link_done pre enough st b' (back at v) (subst AreBytes ei are))
 
 -- ---- the entry, by what its callees promise
 again : (n : ℕ) (d : List ℕ) → d ≡ replicate n 0 → length d ≡ n
@@ -350,55 +344,39 @@ again n d e = ap length e ∙ length-replicate n 0
 zero_again : (n : ℕ) (d : List ℕ) → d ≡ replicate n 0 → d ≡ replicate (length d) 0
 zero_again n d e = e ∙ ap (λ m. replicate m 0) (sym (again n d e))
 
-module _ (o : Offered) (root : ℕ) (b : Buffers) {i f l : List ℕ} (zi : i ≡ replicate (length b.image) 0) (zf : f ≡ replicate (length b.funcs) 0) (zl : l ≡ replicate (length b.lines) 0) where
-  pub entry_refused : (why : told.Refusal) → some (refused_reply why) ≡ link_refusal o root → {starts : List ℕ}
-      → StartedOutcomes o root (lent_by b) (buffers i f l) (answers (Refused why) starts)
-  entry_refused why said = record {
-    outcomes = check_refused o root b (buffers i f l) zi zf zl (Refused why) (sym said);
-    accounts = λ passed s e. some_not_none (said ∙ passed);
-  }
+module _ (o : Offered) (root : ℕ) {b z : Buffers} (w : Wiped b z) where
+  pub entry_refused : (why : told.Refusal) → some (refused_reply why) ≡ link_refusal o root → StartedOutcomes o root (lent_by b) z (Err why)
+  entry_refused why said = record { outcomes = check_refused o root b z w (Err why) (sym said); accounts = tt }
 
   module _ (passed : link_refusal o root ≡ none) where
-    pub entry_starts : Starts o root (buffers i f l)
+    pub entry_starts : Starts o root z
     entry_starts = record {
       checked = Refusing.link_checked o root passed;
       root_in = Refusing.root_is_row o root passed;
-      image = zero_again (length b.image) i zi;
-      funcs = zero_again (length b.funcs) f zf;
-      lines = zero_again (length b.lines) l zl;
+      image = zero_again (length b.image) z.image w.image;
+      funcs = zero_again (length b.funcs) z.funcs w.funcs;
+      lines = zero_again (length b.lines) z.lines w.lines;
     }
 
-    same_lent : lent_by (buffers i f l) ≡ lent_by b
-    same_lent = rw (again (length b.image) i zi, again (length b.funcs) f zf, again (length b.lines) l zl)
+    same_lent : lent_by z ≡ lent_by b
+    same_lent = rw (again (length b.image) z.image w.image, again (length b.funcs) z.funcs w.funcs, again (length b.lines) z.lines w.lines)
 
-    module _ {i' f' l' : List ℕ} (r' : Linked) (ended : Ended o root (buffers i f l) (buffers i' f' l') r') where
-      kept : lent_by (buffers i' f' l') ≡ lent_by b
-      kept = ended.lengths ∙ same_lent
+    pub entry_done : {l : Linked} {e : Buffers} → Ended o root z e (Ok l) → StartedOutcomes o root (lent_by b) e (Ok l)
+    entry_done {l} {e} ended = record {
+      outcomes = step_done o root b e (Ok l.places) passed (subst (λ lent. Outcomes e (Ok l.places) (step_result o root lent)) same_lent ended.done);
+      accounts = λ p s is. ended.accounts s (subst (λ lent. link_step (tables_of little o) (room_in lent) root ≡ linked s) (sym same_lent) is);
+    }
 
-      accounts_kept : (s : Link.State) → link_step (tables_of little o) (room_in (lent_by b)) root ≡ linked s → Accounts o s r'.starts
-      accounts_kept s e = ended.accounts s (subst (λ lent. link_step (tables_of little o) (room_in lent) root ≡ linked s) (sym same_lent) e)
-
-      pub entry_done : (reply_of r'.answer).number ≡ 0 → StartedOutcomes o root (lent_by b) (buffers i' f' l') r'
-      entry_done z = record {
-        outcomes = step_done o root b (buffers i' f' l') r'.answer passed
-            (subst (λ lent. Outcomes (buffers i' f' l') r'.answer (step_result o root lent)) same_lent (ended.done z));
-        accounts = λ p. accounts_kept;
-      }
-
-      pub entry_wiped : {i'' f'' l'' : List ℕ} → ((reply_of r'.answer).number ≡ 0 → ⊥) → i'' ≡ replicate (length i') 0 → f'' ≡ replicate (length f') 0 → l'' ≡ replicate (length l') 0
-          → StartedOutcomes o root (lent_by b) (buffers i'' f'' l'') r'
-      entry_wiped {i''} {f''} {l''} n wi wf wl = record {
-        outcomes = step_refused o root b (buffers i'' f'' l'') (wi ∙ ap (λ x. replicate x.image 0) kept) (wf ∙ ap (λ x. replicate x.func_info 0) kept)
-            (wl ∙ ap (λ x. replicate x.line_info 0) kept) r'.answer passed
-            (subst (λ lent. step_result o root lent ≡ refused_link lent (reply_of r'.answer)) same_lent (ended.refused n));
-        accounts = λ p. accounts_kept;
-      }
-
-      pub wiped_length : {i'' : List ℕ} → i'' ≡ replicate (length i') 0 → length i'' ≡ length b.image
-      wiped_length {i''} wi = again (length i') i'' wi ∙ ap (λ x. x.image) kept
-
-      pub wiped_length_2 : {f'' : List ℕ} → f'' ≡ replicate (length f') 0 → length f'' ≡ length b.funcs
-      wiped_length_2 {f''} wf = again (length f') f'' wf ∙ ap (λ x. x.func_info) kept
-
-      pub wiped_length_3 : {l'' : List ℕ} → l'' ≡ replicate (length l') 0 → length l'' ≡ length b.lines
-      wiped_length_3 {l''} wl = again (length l') l'' wl ∙ ap (λ x. x.line_info) kept
+    pub entry_wiped : {why : told.Refusal} {e z' : Buffers} → Ended o root z e (Err why) → Wiped e z' → StartedOutcomes o root (lent_by b) z' (Err why)
+    entry_wiped {why} {e} {z'} ended again =
+        let kept : lent_by e ≡ lent_by b = ended.lengths ∙ same_lent in
+        record {
+          outcomes = step_refused o root b z'
+              (record {
+                image = again.image ∙ ap (λ x. replicate x.image 0) kept;
+                funcs = again.funcs ∙ ap (λ x. replicate x.func_info 0) kept;
+                lines = again.lines ∙ ap (λ x. replicate x.line_info 0) kept;
+              })
+              (Err why) passed (subst (λ lent. step_result o root lent ≡ refused_link lent (refused_reply why)) same_lent ended.refused);
+          accounts = tt;
+        }

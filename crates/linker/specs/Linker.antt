@@ -1,9 +1,10 @@
 -- What the linker's contracts say: the image's buffers hold a state of the link step (rules, specs/Link), and each function takes
 -- one such state to the next.
 -- Assumes nothing.
-use Rattle.std.specs.Prelude.{◌≡◌, ◌≢◌, Bool, true, false, List, [], ◌∷◌, ℕ, suc, ◌+◌, ◌-◌, ◌*◌, ◌≤◌, ◌<◌, eqb, length, get_or, take, drop, replicate}
+use Rattle.std.specs.Prelude.{◌≡◌, ◌≢◌, Bool, true, false, List, [], ◌∷◌, ℕ, suc, ◌+◌, ◌-◌, ◌*◌, ◌≤◌, ◌<◌, eqb, length, get_or, take, drop, replicate, Result, Ok, Err, IfOk, IfErr}
 use Rattle.std.proofs.Math.Option.{Option, none, some}
-use Rattle.rules.specs.declared.Answer.{Answer}
+use Rattle.rules.specs.declared.Places.{Places}
+use Rattle.rules.specs.declared.Refusal as told
 use Rattle.rules.specs.declared.Table.TheVariants.{Functions, Instructions, FuncInfo, LineInfo}
 use Rattle.rules.specs.Object.{displacement}
 use Rattle.rules.specs.Faithful.{Piece}
@@ -12,13 +13,12 @@ use Rattle.rules.specs.Link as Link
 use Rattle.rules.specs.Link.{Outcome, linked, refuses, unfinished, start_of, visit, append}
 use Rattle.rules.specs.Tables.{object_of}
 use Rattle.rules.specs.Records.{image_functions, image_lines, admits, link_step}
-use Rattle.rules.specs.Answers.{reply_of, refusal_in}
+use Rattle.rules.specs.Answers.{reply_of, refused_reply}
 use Rattle.rules.specs.Lent.{Buffers, lent_by}
 use Rattle.rules.specs.Rows.{row_size, most_rows, whole_rows, Offered, function_slots, summed, tables_of, link_refusal, most_image_slots, most_image_functions, most_image_lines}
 use Rattle.rules.specs.Lookups.{LinkChecked}
 use Rattle.rules.specs.Entries.{func_info_bytes, line_info_bytes, refusal_reply, Outputs, room_in, LinkResult, refused_link, by_outcome, link_entry, PiecesResult}
 use Rattle.linker.specs.declared.State.{State}
-use Rattle.linker.specs.declared.Step.{Step}
 use Rattle.linker.specs.declared.Linked.{Linked}
 use Rattle.linker.specs.declared.Listed.{Listed}
 
@@ -71,14 +71,12 @@ pub record Holds (o : Offered) (root : ℕ) (st : State) (b : Buffers) (s : Link
   pub starts : StartsAre o s.placed st.starts
   pub positive : (row start : ℕ) → start_of row s.placed ≡ some start → 1 ≤ start
 
--- nothing is refused
-abbrev pub Passed : Step → Type 0
-Passed r = refusal_in r.judged ≡ none
-
--- what is judged, with the state and the buffers behind it, is this outcome
-abbrev pub Agrees : Offered → ℕ → Step → Buffers → Outcome → Type 0
-Agrees o root r b (linked s) = Passed r × Holds o root r.state b s
-Agrees o root r b (refuses why) = refusal_in r.judged ≡ some (refusal_reply why)
+-- what a step answers, with the buffers behind it, is this outcome
+abbrev pub Agrees : Offered → ℕ → Result State told.Refusal → Buffers → Outcome → Type 0
+Agrees o root (Ok st) b (linked s) = Holds o root st b s
+Agrees o root (Err r) b (linked s) = ⊥
+Agrees o root (Ok st) b (refuses why) = ⊥
+Agrees o root (Err r) b (refuses why) = refused_reply r ≡ refusal_reply why
 Agrees o root r b unfinished = ⊥
 
 -- the link step's two functions, over the tables' bytes: fuel for every row
@@ -100,9 +98,9 @@ pub record Asks (o : Offered) (st : State) (b : Buffers) (row : ℕ) : Type 0 wh
   pub row_in : row < whole_rows Functions o.functions
 
 -- and what it gives, whatever the root
-pub record Gives (o : Offered) (st : State) (b : Buffers) (r : Step) (b' : Buffers) (outcome : ℕ → Link.State → Outcome) : Type 0 where
-  pub valid : Passed r → Valid r.state b'
-  pub grown : Passed r → Grown st r.state
+pub record Gives (o : Offered) (st : State) (b : Buffers) (r : Result State told.Refusal) (b' : Buffers) (outcome : ℕ → Link.State → Outcome) : Type 0 where
+  pub valid : IfOk r (λ now. Valid now b')
+  pub grown : IfOk r (λ now. Grown st now)
   pub lengths : lent_by b' ≡ lent_by b
   pub agrees : (root : ℕ) (s : Link.State) → Holds o root st b s → Agrees o root r b' (outcome root s)
 
@@ -110,20 +108,20 @@ pub record Adds (o : Offered) (st : State) (b : Buffers) (row : ℕ) : Type 0 wh
   pub asks : Asks o st b row
   pub fresh : get_or st.starts row 0 ≡ 0
 
-pub record Added (o : Offered) (st : State) (b : Buffers) (row : ℕ) (r : Step) (b' : Buffers) : Type 0 where
+pub record Added (o : Offered) (st : State) (b : Buffers) (row : ℕ) (r : Result State told.Refusal) (b' : Buffers) : Type 0 where
   pub gives : Gives o st b r b' (λ root. adding o (lent_by b) root row)
-  pub start : Passed r → get_or r.state.starts row 0 ≡ st.used.slots
+  pub start : IfOk r (λ now. get_or now.starts row 0 ≡ st.used.slots)
 
-pub record Placed (o : Offered) (st : State) (b : Buffers) (callee : ℕ) (r : Step) (b' : Buffers) : Type 0 where
+pub record Placed (o : Offered) (st : State) (b : Buffers) (callee : ℕ) (r : Result State told.Refusal) (b' : Buffers) : Type 0 where
   pub gives : Gives o st b r b' (λ root s. placing o (lent_by b) root (start_of callee s.placed) callee s)
-  pub start : Passed r → get_or st.starts callee 0 ≡ 0 → get_or r.state.starts callee 0 ≡ st.used.slots
+  pub start : IfOk r (λ now. get_or st.starts callee 0 ≡ 0 → get_or now.starts callee 0 ≡ st.used.slots)
 
 pub record Visits (o : Offered) (st : State) (b : Buffers) (row start first : ℕ) : Type 0 where
   pub asks : Asks o st b row
   pub fits : start + function_slots o.functions row ≤ st.used.slots
   pub begins : first ≡ summed (function_slots o.functions) 0 row
 
-abbrev pub Visited : Offered → State → Buffers → ℕ → ℕ → Step → Buffers → Type 0
+abbrev pub Visited : Offered → State → Buffers → ℕ → ℕ → Result State told.Refusal → Buffers → Type 0
 Visited o st b row start r b' = Gives o st b r b' (λ root. visiting o (lent_by b) root row start (function_slots o.functions row) 0)
 
 -- a call, or a reference, rewritten in place
@@ -145,7 +143,7 @@ abbrev pub step_result : Offered → ℕ → Outputs → LinkResult
 step_result o root lent = by_outcome little (tables_of little o) root lent (link_step (tables_of little o) (room_in lent) root)
 
 -- the reply and all three outputs
-pub record Outcomes (b : Buffers) (a : Answer) (result : LinkResult) : Type 0 where
+pub record Outcomes (b : Buffers) (a : Result Places told.Refusal) (result : LinkResult) : Type 0 where
   pub reply : reply_of a ≡ result.reply
   pub image : b.image ≡ result.image
   pub funcs : b.funcs ≡ result.func_info
@@ -156,20 +154,39 @@ pub record Accounts (o : Offered) (s : Link.State) (starts : List ℕ) : Type 0 
   pub starts_are : StartsAre o s.placed starts
   pub few : length s.image ≤ most_image_slots
 
+-- outputs of the same lengths, zero everywhere
+pub record Wiped (b b' : Buffers) : Type 0 where
+  pub image : b'.image ≡ replicate (length b.image) 0
+  pub funcs : b'.funcs ≡ replicate (length b.funcs) 0
+  pub lines : b'.lines ≡ replicate (length b.lines) 0
+
+-- the answer of what also gives starts, or a list
+abbrev pub answer_of : Result Linked told.Refusal → Result Places told.Refusal
+answer_of (Ok l) = Ok l.places
+answer_of (Err why) = Err why
+
+abbrev pub list_answer : Result Listed told.Refusal → Result Places told.Refusal
+list_answer (Ok l) = Ok l.places
+list_answer (Err why) = Err why
+
+abbrev pub list_count : Result Listed told.Refusal → ℕ
+list_count (Ok l) = l.count
+list_count (Err why) = 0
+
 -- the answer is the step's, and so are the outputs, but that a refusal has still to zero them; the starts are the last state's
-pub record Ended (o : Offered) (root : ℕ) (b b' : Buffers) (r : Linked) : Type 0 where
+pub record Ended (o : Offered) (root : ℕ) (b b' : Buffers) (r : Result Linked told.Refusal) : Type 0 where
   pub lengths : lent_by b' ≡ lent_by b
-  pub done : (reply_of r.answer).number ≡ 0 → Outcomes b' r.answer (step_result o root (lent_by b))
-  pub refused : (reply_of r.answer).number ≢ 0 → step_result o root (lent_by b) ≡ refused_link (lent_by b) (reply_of r.answer)
-  pub accounts : (s : Link.State) → link_step (tables_of little o) (room_in (lent_by b)) root ≡ linked s → Accounts o s r.starts
+  pub done : IfOk r (λ l. Outcomes b' (Ok l.places) (step_result o root (lent_by b)))
+  pub refused : IfErr r (λ why. step_result o root (lent_by b) ≡ refused_link (lent_by b) (refused_reply why))
+  pub accounts : IfOk r (λ l. (s : Link.State) → link_step (tables_of little o) (room_in (lent_by b)) root ≡ linked s → Accounts o s l.starts)
 
 -- the link's outcomes, and the starts of an accepted one
-pub record StartedOutcomes (o : Offered) (root : ℕ) (lent : Outputs) (b : Buffers) (r : Linked) : Type 0 where
-  pub outcomes : Outcomes b r.answer (link_entry little o root lent)
-  pub accounts : link_refusal o root ≡ none → (s : Link.State) → link_step (tables_of little o) (room_in lent) root ≡ linked s → Accounts o s r.starts
+pub record StartedOutcomes (o : Offered) (root : ℕ) (lent : Outputs) (b : Buffers) (r : Result Linked told.Refusal) : Type 0 where
+  pub outcomes : Outcomes b (answer_of r) (link_entry little o root lent)
+  pub accounts : IfOk r (λ l. link_refusal o root ≡ none → (s : Link.State) → link_step (tables_of little o) (room_in lent) root ≡ linked s → Accounts o s l.starts)
 
 -- the reply and all four outputs, and how many pieces there are
-pub record ListedOutcomes (b : Buffers) (list : List ℕ) (r : Listed) (result : PiecesResult) : Type 0 where
-  pub outcomes : Outcomes b r.answer result.link
+pub record ListedOutcomes (b : Buffers) (list : List ℕ) (r : Result Listed told.Refusal) (result : PiecesResult) : Type 0 where
+  pub outcomes : Outcomes b (list_answer r) result.link
   pub pieces : list ≡ result.pieces
-  pub counted : r.count ≡ length result.list
+  pub counted : list_count r ≡ length result.list

@@ -1,12 +1,12 @@
 -- What room for a row, and a row's part inside its table, say of the places to write and to read.
 -- Assumes nothing.
-use mathlib.Core.Path.{◌≡◌, refl, sym}
-use mathlib.Core.Bool.{Bool, true, false, ◌&&◌}
+use mathlib.Core.Path.{◌≡◌}
+use mathlib.Core.Bool.{true}
 use mathlib.Core.List.{List}
-use Prim.Native.Nat.{ℕ, ◌+◌, ◌/◌, ◌≤◌, ◌<◌, min}
+use Prim.Native.Nat.{ℕ, ◌+◌, ◌/◌, ◌≤◌, min}
 use native.Mathlib.Omega.{arith}
-use native.Mathlib.Nat.{min-le_left, min-le_right, le-min}
-use borrow.Author.Tests.{leb-true, leb-false, le-leb, lt-leb}
+use native.Mathlib.Nat.{min-le_left, min-le_right}
+use borrow.Author.Tests.{leb-true}
 use lib.Dec.{leb}
 use lib.ListN.{length}
 use Rattle.rules.specs.declared.Table.TheVariants.{Instructions, FuncInfo, LineInfo}
@@ -22,17 +22,6 @@ pub record Below (n a b : ℕ) : Type 0 where
 
 below_min : (n a b : ℕ) → leb n (min a b) ≡ true → Below n a b
 below_min n a b e = record { left = omega (arith, leb-true n (min a b) e, min-le_left a b); right = omega (arith, leb-true n (min a b) e, min-le_right a b) }
-
--- a test against both, as two
-pub leb_min : (n a b : ℕ) → n ≤ b → leb n a ≡ leb n (min a b)
-leb_min n a b h = go (leb n a) refl
-  where
-    go : (t : Bool) → leb n a ≡ t → t ≡ leb n (min a b)
-    go true e = sym (le-leb n (min a b) (le-min (leb-true n a e) h))
-    go false e = sym (lt-leb n (min a b) (omega (arith, leb-false n a e, min-le_left a b)))
-
-pub leb_past : (n a b : ℕ) → b < n → false ≡ leb n (min a b)
-leb_past n a b h = sym (lt-leb n (min a b) (omega (arith, min-le_right a b)))
 
 pub record Roomy (functions : List ℕ) (image funcs lines : ℕ) (used : Used) (row : ℕ) : Type 0 where
   pub slots : Below (used.slots + function_slots functions row) (image / row_size Instructions) most_image_slots
@@ -50,13 +39,6 @@ roomy functions image funcs lines used row e =
       function_records = below_min _ _ _ (and_left function_records _ later);
       line_records = below_min _ _ _ (and_right function_records _ later);
     }
-
-pub room_counted : (functions : List ℕ) (image funcs lines : ℕ) (used : Used) (row : ℕ) (more : Used) → RowCounts functions row more
-    → room_bytes functions image funcs lines used row
-    ≡ (leb (used.slots + more.slots) (room_of image funcs lines).slots
-    && (leb (used.funcs + more.funcs) (room_of image funcs lines).functions && leb (used.lines + more.lines) (room_of image funcs lines).lines))
-unfolding room_bytes
-room_counted functions image funcs lines used row more e = rw (e.slots_are, e.funcs_are, e.lines_are)
 
 pub sums : (o : Offered) (row : ℕ) → Parts o row → Sums o.functions row
 sums o row parts = record {

@@ -1,11 +1,12 @@
 -- One function added to an image: the bytes that its row of table 3 stands for in tables 6, 7 and 8, and what they become.
 -- Assumes nothing.
-use Rattle.std.specs.Prelude.{◌≡◌, Bool, true, ◌&&◌, List, ◌++◌, map, ℕ, ◌+◌, ◌-◌, ◌*◌, ◌≤◌, ◌<◌, leb, length, take, drop}
+use Rattle.std.specs.Prelude.{◌≡◌, Bool, true, ◌&&◌, List, map, ℕ, ◌+◌, ◌-◌, ◌*◌, ◌≤◌, ◌<◌, leb, ltb, length, take, drop}
 use Rattle.std.proofs.Math.Option.{Option, none}
 use Rattle.rules.specs.declared.Table.TheVariants.{Functions, Instructions, FuncInfo, LineInfo}
-use Rattle.rules.specs.Bytes.{little, bytes4, splice}
+use Rattle.rules.specs.Bytes.{little, splice}
 use Rattle.rules.specs.Link.{run}
 use Rattle.rules.specs.Tables.{FunctionRecord, LineRecord}
+use Rattle.rules.specs.declared.Image.{Image}
 use Rattle.rules.specs.Lent.{Buffers}
 use Rattle.rules.specs.Rows.{row_size, most_rows, whole_rows, Offered, function_slots, function_func_info, function_line_info, record_slot, func_info_row, line_info_row, summed}
 use Rattle.rules.specs.Records.{Room, started_at, rebased, first_slot, stray}
@@ -39,6 +40,10 @@ func_bytes functions func_info row start = func_info_bytes little (map (started_
 unfoldable pub line_bytes : List ℕ → List ℕ → ℕ → ℕ → List ℕ
 line_bytes functions line_info row start = line_info_bytes little (moved start (line_rows functions line_info row))
 
+-- "12 if that difference is negative or not below the function's slots": a record that it does not refuse
+abbrev pub stays : ℕ → ℕ → LineRecord → Bool
+stays slots origin l = leb origin l.slot && ltb (l.slot - origin) slots
+
 -- "12 if that difference is negative or not below the function's slots": the first such record
 abbrev pub stray_in : List ℕ → List ℕ → ℕ → Option ℕ
 stray_in functions line_info row = stray (function_slots functions row) (first_slot (line_rows functions line_info row)) 0 (line_rows functions line_info row)
@@ -47,6 +52,15 @@ pub record Counts (slots funcs lines : ℕ) (used : Used) : Type 0 where
   pub slots_are : used.slots ≡ slots
   pub funcs_are : used.funcs ≡ funcs
   pub lines_are : used.lines ≡ lines
+
+-- two of them together, which a u32 holds each
+abbrev pub sum : Used → Used → Used
+sum a b = record { slots = a.slots + b.slots; funcs = a.funcs + b.funcs; lines = a.lines + b.lines }
+
+pub record Addable (a b : Used) : Type 0 where
+  pub few_slots : a.slots + b.slots < 0x1_0000_0000
+  pub few_funcs : a.funcs + b.funcs < 0x1_0000_0000
+  pub few_lines : a.lines + b.lines < 0x1_0000_0000
 
 -- what a row of table 3 counts, and what the rows before it do
 abbrev pub RowCounts : List ℕ → ℕ → Used → Type 0
@@ -93,10 +107,6 @@ pub record Copyable (size : ℕ) (table : List ℕ) (first count : ℕ) (out : L
   pub inside : size * (first + count) ≤ length table
   pub room : size * (at + count) ≤ length out
 
--- the bytes of two numbers
-unfoldable pub pair_bytes : ℕ → ℕ → List ℕ
-pair_bytes a b = bytes4 little a ++ bytes4 little b
-
 -- line record k does not stray: the difference is one, and the sum a u32
 pub record Nearby (line_info : List ℕ) (first start k : ℕ) : Type 0 where
   pub low : record_slot little LineInfo line_info first ≤ record_slot little LineInfo line_info (first + k)
@@ -104,6 +114,12 @@ pub record Nearby (line_info : List ℕ) (first start k : ℕ) : Type 0 where
 
 abbrev pub Near : List ℕ → ℕ → ℕ → ℕ → Type 0
 Near line_info first count start = (k : ℕ) → k < count → Nearby line_info first start k
+
+-- the same three outputs, whatever they hold
+pub record SameOutputs (image image' : Image) : Type 0 where
+  pub slots_same : image'.slots.ghost_name ≡ image.slots.ghost_name
+  pub funcs_same : image'.func_info.ghost_name ≡ image.func_info.ghost_name
+  pub lines_same : image'.line_info.ghost_name ≡ image.line_info.ghost_name
 
 pub record Extends (o : Offered) (b : Buffers) (used : Used) (row : ℕ) (part : Used) : Type 0 where
   pub parts : Parts o row

@@ -1,47 +1,62 @@
 // One function added to an image: room, line records that stray, copies of slots and records.
 #![tactic(auto)]
 
-ghost use Rattle.std.specs.Prelude.{◌≡◌, map, ◌+◌, ◌*◌, ◌/◌, ◌≤◌, ◌<◌, min, leb, length, take, drop};
+ghost use Rattle.std.specs.Prelude.{◌≡◌, map, ◌+◌, ◌*◌, ◌/◌, ◌≤◌, ◌<◌, min, leb, length, take, drop, not};
 ghost use Rattle.rules.specs.declared.Table.TheVariants.{Functions, FuncInfo, LineInfo};
-ghost use Rattle.rules.specs.Bytes.{little, splice};
-ghost use Rattle.rules.specs.Lent.{offered_parts, lent_parts, outputs, lent_outputs};
-ghost use Rattle.rules.specs.Rows.{row_size, whole_rows};
+ghost use Rattle.rules.specs.Bytes.{little, splice, AreBytes};
+ghost use Rattle.rules.specs.Lent.{lent_parts, lent_image};
+ghost use Rattle.rules.specs.Rows.{row_size, whole_rows, line_info_row};
 ghost use Rattle.rules.specs.Records.{started_at};
 ghost use Rattle.rules.specs.Entries.{func_info_bytes, line_info_bytes};
 ghost use Rattle.rules.specs.Lookups.{found_of};
-ghost use Rattle.merge.specs.Merge.{RowCounts, PartBegins, Sums, room_bytes, Lined, stray_in, Copyable, pair_bytes};
-ghost use Rattle.merge.specs.Merge.{funcs_from, lines_from, moved, Near, Extends, Extended, Begins, Begun};
+ghost use Rattle.merge.specs.Merge.{RowCounts, PartBegins, Sums, Addable, sum, room_bytes, Lined, stays, stray_in, Copyable};
+ghost use Rattle.merge.specs.Merge.{funcs_from, lines_from, moved, Near, Extends, Extended, Begins, Begun, SameOutputs};
 
 use rows::fields::{
     func_info_type, function_func_info, function_line_info, function_slots, line_info_column,
     line_info_file, line_info_line, line_info_slot,
 };
-use rules::Found;
 use rules::limits::{
     FUNC_INFO_SIZE, INSTRUCTION_SIZE, LINE_INFO_SIZE, MOST_IMAGE_FUNC_INFO, MOST_IMAGE_LINE_INFO,
     MOST_IMAGE_SLOTS,
 };
-use wire::{copy, put_u32};
+use rules::{Image, Program};
+use std::ops::Add;
+use wire::{copy, put_numbers};
 
 // How much an image holds: slots, function records, line records.
-#[derive(Clone, Copy)]
+#[derive(Clone, Copy, PartialEq, Eq, Default)]
 pub struct Used {
     pub slots: u32,
     pub funcs: u32,
     pub lines: u32,
 }
 
+impl Add for Used {
+    type Output = Used;
+
+    ghost can_add = { Addable };
+
+    ghost add_gives = { λ a b c. c ≡ sum a b };
+
+    fn add(self, more: Used) -> Used {
+        Used {
+            slots: self.slots + more.slots,
+            funcs: self.funcs + more.funcs,
+            lines: self.lines + more.lines,
+        }
+    }
+}
+
+// What a row counts.
 fn counts(functions: &[u8], row: usize) -> Used
     requires { row < whole_rows Functions functions.now }
     ensures { RowCounts functions.now row result }
 {
-    let slots = function_slots(functions, row);
-    let funcs = function_func_info(functions, row);
-    let lines = function_line_info(functions, row);
     Used {
-        slots: slots.0,
-        funcs,
-        lines,
+        slots: function_slots(functions, row).0,
+        funcs: function_func_info(functions, row),
+        lines: function_line_info(functions, row),
     }
 }
 
@@ -50,23 +65,11 @@ pub fn part_of(functions: &[u8], row: usize) -> Used
     requires { Sums functions.now row }
     ensures { PartBegins functions.now row result }
 {
-    let mut slots: u32 = 0;
-    let mut funcs: u32 = 0;
-    let mut lines: u32 = 0;
-    let mut k = 0;
-    while k < row {
-        let own = function_slots(functions, k);
-        let more = own.0;
-        slots += more;
-        funcs += function_func_info(functions, k);
-        lines += function_line_info(functions, k);
-        k += 1;
+    let mut part = Used::default();
+    for k in 0..row {
+        part = part + counts(functions, k);
     }
-    Used {
-        slots,
-        funcs,
-        lines,
-    }
+    part
 }
 
 fn fits(used: u32, more: u32, bytes: usize, size: usize, most: usize) -> bool
@@ -74,91 +77,65 @@ fn fits(used: u32, more: u32, bytes: usize, size: usize, most: usize) -> bool
     ensures { result ≡ leb (used + more) (min (bytes / size) most) }
 {
     let n = used as usize + more as usize;
-    if n <= most {
-        return n <= bytes / size;
-    }
-    false
+    n <= most && n <= bytes / size
 }
 
-// For outputs of so many bytes.
-pub fn has_room(
-    functions: &[u8],
-    image: usize,
-    funcs: usize,
-    lines: usize,
-    used: Used,
-    row: usize,
-) -> bool
+// Whether a row's part fits behind what the image holds.
+#[tactic(auto, unfolding(crate::specs::Merge::room_bytes))]
+pub fn has_room(functions: &[u8], image: &Image, used: Used, row: usize) -> bool
     requires { row < whole_rows Functions functions.now }
-    ensures { result ≡ room_bytes functions.now image funcs lines used row }
+    ensures { result ≡ room_bytes functions.now (length image.now.slots.now) (length image.now.func_info.now) (length image.now.line_info.now) used row }
 {
     let added = counts(functions, row);
-    if !fits(
+    fits(
         used.slots,
         added.slots,
-        image,
+        image.slots.len(),
         INSTRUCTION_SIZE,
         MOST_IMAGE_SLOTS,
-    ) {
-        return false;
-    }
-    if !fits(
+    ) && fits(
         used.funcs,
         added.funcs,
-        funcs,
+        image.func_info.len(),
         FUNC_INFO_SIZE,
         MOST_IMAGE_FUNC_INFO,
-    ) {
-        return false;
-    }
-    fits(
+    ) && fits(
         used.lines,
         added.lines,
-        lines,
+        image.line_info.len(),
         LINE_INFO_SIZE,
         MOST_IMAGE_LINE_INFO,
     )
 }
 
+// Whether a line record lies before the slot `origin`, or `slots` slots after it or more.
+fn is_stray(line_info: &[u8], k: usize, origin: u32, slots: u32) -> bool
+    requires { row_size LineInfo * k + row_size LineInfo ≤ length line_info.now }
+    ensures { result ≡ not (stays slots origin (line_info_row little line_info.now k)) }
+{
+    let slot = line_info_slot(line_info, k);
+    slot < origin || slot - origin >= slots
+}
+
 // The first line record of a function that lies before its first one, or past its slots.
-pub fn stray_line(functions: &[u8], line_info: &[u8], row: usize, first: u32) -> Found
+pub fn stray_line(functions: &[u8], line_info: &[u8], row: usize, first: u32) -> Option<usize>
     requires { Lined functions.now line_info.now row first }
     ensures { result ≡ found_of (stray_in functions.now line_info.now row) }
 {
     let at = first as usize;
     let count = function_line_info(functions, row) as usize;
     if count == 0 {
-        return Found::Nothing;
+        return None;
     }
-    let own = function_slots(functions, row);
-    let slots = own.0;
+    let slots = function_slots(functions, row).0;
     let origin = line_info_slot(line_info, at);
-    let mut k = 0;
-    while k < count {
-        let slot = line_info_slot(line_info, at + k);
-        if slot < origin {
-            return Found::At(k);
-        }
-        let after = slot - origin;
-        if after >= slots {
-            return Found::At(k);
-        }
-        k += 1;
-    }
-    Found::Nothing
-}
-
-fn put_pair(out: &mut [u8], at: usize, a: u32, b: u32)
-    requires { at + 8 ≤ length out.old }
-    ensures { out.new ≡ splice out.old at (pair_bytes a b) }
-{
-    put_u32(out, at, a);
-    put_u32(out, at + 4, b);
+    (0..count).find(|k| is_stray(line_info, at + *k, origin, slots))
 }
 
 fn copy_rows(size: usize, table: &[u8], first: u32, count: u32, out: &mut [u8], at: u32)
     requires { Copyable size table.now first count out.old at }
-    ensures { out.new ≡ splice out.old (size * at) (take (size * count) (drop (size * first) table.now)) }
+    ensures copied { out.new ≡ splice out.old (size * at) (take (size * count) (drop (size * first) table.now)) }
+    ensures bytes { AreBytes table.now }
 {
     copy(
         out,
@@ -169,7 +146,7 @@ fn copy_rows(size: usize, table: &[u8], first: u32, count: u32, out: &mut [u8], 
     );
 }
 
-// The crate's link_func_and_line_info, a function for each kind of record.
+// The crate's link_func_and_line_info, a function for each kind of record: a line record has more numbers, and keeps its way from the first one.
 fn link_func_info(func_info: &[u8], part: Used, more: Used, out: &mut [u8], used: Used)
     requires { Copyable (row_size FuncInfo) func_info.now part.funcs more.funcs out.old used.funcs }
     ensures { out.new ≡ splice
@@ -181,11 +158,9 @@ fn link_func_info(func_info: &[u8], part: Used, more: Used, out: &mut [u8], used
     let to = used.funcs as usize;
     let n = more.funcs as usize;
     let slot = used.slots;
-    let mut k = 0;
-    while k < n {
+    for k in 0..n {
         let kind = func_info_type(func_info, from + k);
-        put_pair(out, FUNC_INFO_SIZE * (to + k), slot, kind);
-        k += 1;
+        put_numbers(out, FUNC_INFO_SIZE * (to + k), [slot, kind]);
     }
 }
 
@@ -205,110 +180,72 @@ fn link_line_info(line_info: &[u8], part: Used, more: Used, out: &mut [u8], used
         return;
     }
     let origin = line_info_slot(line_info, from);
-    let mut k = 0;
-    while k < n {
+    for k in 0..n {
         let row = from + k;
-        let place = LINE_INFO_SIZE * (to + k);
         let slot = start + (line_info_slot(line_info, row) - origin);
-        put_pair(out, place, slot, line_info_file(line_info, row));
+        let file = line_info_file(line_info, row);
         let line = line_info_line(line_info, row);
-        put_pair(out, place + 8, line, line_info_column(line_info, row));
-        k += 1;
+        let column = line_info_column(line_info, row);
+        put_numbers(out, LINE_INFO_SIZE * (to + k), [slot, file, line, column]);
     }
 }
 
 // A function after the others: its slots, and its records moved to where it starts. Its part begins there in the tables.
 pub fn extend(
     functions: &[u8],
-    instructions: &[u8],
-    func_info: &[u8],
-    line_info: &[u8],
-    image: &mut [u8],
-    image_func_info: &mut [u8],
-    image_line_info: &mut [u8],
+    program: Program,
+    image: &mut Image,
     used: Used,
     row: usize,
     part: Used,
 ) -> Used
-    requires { Extends
-        (offered_parts functions.now instructions.now func_info.now line_info.now)
-        (outputs image.old image_func_info.old image_line_info.old)
-        used
-        row
-        part }
-    ensures { Extended
-        (lent_parts functions.now instructions.now func_info.now line_info.now)
-        (lent_outputs image.old image_func_info.old image_line_info.old)
-        (outputs image.new image_func_info.new image_line_info.new)
-        used
-        row
-        result }
+    requires { Extends (lent_parts functions.now program) (lent_image image.old) used row part }
+    ensures written { Extended (lent_parts functions.now program.entry) (lent_image image.old) (lent_image image.new) used row result }
+    ensures same { SameOutputs image.old image.new }
 {
     let more = counts(functions, row);
     copy_rows(
         INSTRUCTION_SIZE,
-        instructions,
+        program.instructions,
         part.slots,
         more.slots,
-        image,
+        image.slots,
         used.slots,
     );
-    link_func_info(func_info, part, more, image_func_info, used);
-    link_line_info(line_info, part, more, image_line_info, used);
-    Used {
-        slots: used.slots + more.slots,
-        funcs: used.funcs + more.funcs,
-        lines: used.lines + more.lines,
-    }
+    link_func_info(program.func_info, part, more, image.func_info, used);
+    link_line_info(program.line_info, part, more, image.line_info, used);
+    used + more
 }
 
 // The root: its slots and its records as they stand.
-pub fn begin(
-    functions: &[u8],
-    instructions: &[u8],
-    func_info: &[u8],
-    line_info: &[u8],
-    image: &mut [u8],
-    image_func_info: &mut [u8],
-    image_line_info: &mut [u8],
-    row: usize,
-    part: Used,
-) -> Used
-    requires { Begins
-        (offered_parts functions.now instructions.now func_info.now line_info.now)
-        (outputs image.old image_func_info.old image_line_info.old)
-        row
-        part }
-    ensures { Begun
-        (lent_parts functions.now instructions.now func_info.now line_info.now)
-        (lent_outputs image.old image_func_info.old image_line_info.old)
-        (outputs image.new image_func_info.new image_line_info.new)
-        row
-        result }
+pub fn begin(functions: &[u8], program: Program, image: &mut Image, row: usize, part: Used) -> Used
+    requires { Begins (lent_parts functions.now program) (lent_image image.old) row part }
+    ensures written { Begun (lent_parts functions.now program.entry) (lent_image image.old) (lent_image image.new) row result }
+    ensures same { SameOutputs image.old image.new }
 {
     let more = counts(functions, row);
     copy_rows(
         INSTRUCTION_SIZE,
-        instructions,
+        program.instructions,
         part.slots,
         more.slots,
-        image,
+        image.slots,
         0,
     );
     copy_rows(
         FUNC_INFO_SIZE,
-        func_info,
+        program.func_info,
         part.funcs,
         more.funcs,
-        image_func_info,
+        image.func_info,
         0,
     );
     copy_rows(
         LINE_INFO_SIZE,
-        line_info,
+        program.line_info,
         part.lines,
         more.lines,
-        image_line_info,
+        image.line_info,
         0,
     );
     more

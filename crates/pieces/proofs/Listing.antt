@@ -3,46 +3,26 @@
 use mathlib.Core.Path.{◌≡◌, refl, sym, ap, ◌∙◌}
 use mathlib.Core.Bool.{Bool, true, false, cond}
 use mathlib.Core.Option.{Option, none, some}
-use mathlib.Core.List.{List, [], ◌∷◌, ◌++◌, append_assoc}
+use mathlib.Core.List.{List, [], ◌∷◌, ◌++◌}
 use Prim.Native.Nat.{ℕ, zero, suc, ◌+◌, ◌*◌, ◌-◌, ◌≤◌, ◌<◌}
 use native.Mathlib.Omega.{arith}
-use borrow.Author.Tests.{lt-ltb, le-ltb}
+use borrow.Author.Tests.{lt-ltb, le-ltb, ltb-true, ltb-false}
 use lib.Dec.{eqb, ltb}
-use lib.ListN.{length, get_or, take, drop, replicate, length-append}
-use lib.Seq.{length-take-le, take_at, drop-append-add, drop-drop, paste-zero}
+use lib.ListN.{length, get_or, take, drop, replicate}
+use lib.Seq.{length-take-le, get_or-take}
 use Rattle.rules.specs.declared.Table.TheVariants.{Functions}
 use Rattle.rules.specs.Bytes.{splice, padded}
 use Rattle.rules.specs.Faithful.{Piece, piece}
 use Rattle.rules.specs.Lookups.{found_of}
-use Rattle.rules.specs.declared.Found.TheVariants.{At, Nothing}
+use Rattle.std.specs.Prelude.{Some, None}
+use Rattle.std.specs.List.{position, position_or_len}
+use Rattle.std.proofs.lemmas.List.Sums.{passes_at_first, fails_before_first}
 use Rattle.rules.specs.Pieces.{piece_size, pieces_bytes}
-use Rattle.rules.specs.Rows.{whole_rows, function_slots}
-use Rattle.rules.proofs.Splices.{splice_length}
+use Rattle.rules.specs.Rows.{whole_rows, function_slots, first_from}
+use Rattle.rules.proofs.Searches.{first_at, first_nothing}
+use Rattle.rules.proofs.Splices.{splice_length, splice_nothing, splice_more}
 use Rattle.rows.proofs.Laws.{found_some, found_none, row_found}
 use Rattle.pieces.specs.InOrder.{piece_bytes, row_at, and_next, in_order, Puts}
-
--- ---- a splice of nothing, one right after another, and one over zeros
-pub splice_nothing : (d : List ℕ) (p : ℕ) → d ≡ splice d p []
-unfolding splice
-splice_nothing d p = paste-zero d p []
-
-module _ (d : List ℕ) (p : ℕ) (xs ys : List ℕ) (q : ℕ) (next : q ≡ p + length xs) (fits : q + length ys ≤ length d) where
-  head : length (take p d ++ xs) ≡ q
-  head = length-append (take p d) xs ∙ omega (arith, length-take-le p d (omega arith))
-
-  behind : drop (q + length ys) ((take p d ++ xs) ++ drop (p + length xs) d) ≡ drop (p + length (xs ++ ys)) d
-  behind =
-      ap (λ (n : ℕ). drop (n + length ys) ((take p d ++ xs) ++ drop (p + length xs) d)) (sym head)
-      ∙ drop-append-add (take p d ++ xs) (drop (p + length xs) d) (length ys)
-      ∙ drop-drop (length ys) (p + length xs) d
-      ∙ ap (λ (n : ℕ). drop n d) (let e : p + length xs + length ys ≡ p + length (xs ++ ys) = omega (arith, length-append xs ys) in e)
-
-  pub splice_more : splice (splice d p xs) q ys ≡ splice d p (xs ++ ys)
-  unfolding splice
-  splice_more =
-      ap (λ (l : List ℕ). l ++ ys ++ drop (q + length ys) ((take p d ++ xs) ++ drop (p + length xs) d)) (take_at (take p d ++ xs) (drop (p + length xs) d) q head)
-      ∙ ap (λ (l : List ℕ). (take p d ++ xs) ++ ys ++ l) behind
-      ∙ ap (λ (l : List ℕ). l ++ drop (p + length (xs ++ ys)) d) (append_assoc (take p d) xs ys)
 
 -- ---- sizes
 pub piece_length : (row start : ℕ) → length (piece_bytes row start) ≡ piece_size
@@ -105,7 +85,31 @@ module _ (slots : ℕ → ℕ) (starts : List ℕ) (n end : ℕ) where
   order_full most at e = rw e refl
 
 -- ---- the row that is found
-pub row_inside : (starts : List ℕ) (n at row : ℕ) → found_of (row_at starts n at) ≡ At row → row < n
+pub row_at_position : (starts : List ℕ) (n at : ℕ) → n ≤ length starts → position (λ s. eqb s at) (take n starts) ≡ found_of (row_at starts n at)
+unfolding row_at
+row_at_position starts n at l = go (ltb first (length (take n starts))) refl
+  where
+    test : ℕ → Bool
+    test start = eqb start at
+
+    first : ℕ
+    first = position_or_len test (take n starts)
+
+    same : (j : ℕ) (b : Bool) → j < n → test (get_or (take n starts) j 0) ≡ b → test (get_or starts j 0) ≡ b
+    same j b h e = ap test (sym (get_or-take n starts j 0 h)) ∙ e
+
+    go : (b : Bool) → ltb first (length (take n starts)) ≡ b → cond b (Some first) None ≡ found_of (first_from (λ row. test (get_or starts row 0)) 0 n)
+    go true e =
+        let h : first < n = omega (arith, ltb-true first (length (take n starts)) e, length-take-le n starts l) in
+        sym (ap found_of (first_at (λ row. test (get_or starts row 0)) n first h
+        (same first true h (passes_at_first test (take n starts) 0 (ltb-true first (length (take n starts)) e)))
+        (λ j g. same j false (omega (arith, g, h)) (fails_before_first test (take n starts) j 0 g))))
+    go false e =
+        let h : n ≤ first = omega (arith, ltb-false first (length (take n starts)) e, length-take-le n starts l) in
+        sym (ap found_of (first_nothing (λ row. test (get_or starts row 0)) n
+        (λ j g. same j false g (fails_before_first test (take n starts) j 0 (omega (arith, g, h))))))
+
+pub row_inside : (starts : List ℕ) (n at row : ℕ) → found_of (row_at starts n at) ≡ Some row → row < n
 unfolding row_at
 row_inside starts n at row e = (row_found (λ row. eqb (get_or starts row 0) at) n row e).inside
 
@@ -127,7 +131,7 @@ module _ (functions starts : List ℕ) (end : ℕ) where
 
   module _ (before : List ℕ) (room : piece_size * suc (whole_rows Functions functions) ≤ length before) (first : ℕ) (after : List ℕ) (count at : ℕ) (left : Left before first after count at) where
     pub left_next : (after' : List ℕ) (row slots : ℕ) → count ≤ whole_rows Functions functions → at < end
-        → found_of (row_at starts (whole_rows Functions functions) at) ≡ At row → after' ≡ splice after (piece_size * count) (piece_bytes row at)
+        → found_of (row_at starts (whole_rows Functions functions) at) ≡ Some row → after' ≡ splice after (piece_size * count) (piece_bytes row at)
         → slots ≡ function_slots functions row → Left before first after' (count + 1) (at + slots)
     unfolding rest
     left_next after' row slots l m found e f =
@@ -168,7 +172,7 @@ module _ (functions starts : List ℕ) (end : ℕ) where
         unfolding rest
         left_ends l = whole fits (order_ends (function_slots functions) starts (whole_rows Functions functions) end (suc (whole_rows Functions functions) - count) at l)
 
-        pub left_breaks : found_of (row_at starts (whole_rows Functions functions) at) ≡ Nothing → Puts functions starts root end out after count
+        pub left_breaks : found_of (row_at starts (whole_rows Functions functions) at) ≡ None → Puts functions starts root end out after count
         unfolding rest
         left_breaks e =
             whole fits (order_breaks (function_slots functions) starts (whole_rows Functions functions) end (suc (whole_rows Functions functions) - count) at

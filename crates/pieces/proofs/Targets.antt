@@ -4,25 +4,30 @@ use mathlib.Core.Path.{◌≡◌, refl, sym, ap, ◌∙◌}
 use mathlib.Core.Logic.{◌⊎◌, inl, inr}
 use mathlib.Core.Bool.{Bool, true, false, ◌&&◌, ◌||◌}
 use mathlib.Core.List.{List, [], ◌∷◌}
-use Prim.Native.Nat.{ℕ, zero, suc, ◌+◌, ◌≤◌, ◌<◌}
+use Prim.Native.Nat.{ℕ, zero, suc, ◌+◌, ◌*◌, ◌≤◌, ◌<◌}
 use native.Mathlib.Nat.{eq-or-lt_of_le}
 use native.Mathlib.Decide.{dec_lt}
 use native.Mathlib.Omega.{arith}
 use borrow.Author.Tests.{ltb-true, ltb-false, lt-ltb, ne_eqb}
-use lib.IntN.{ℤ, pos, negsuc}
+use lib.IntN.{ℤ, pos, negsuc, nat_abs}
 use lib.Signed.{lt_z}
-use lib.Dec.{eqb}
+use lib.Dec.{eqb, ltb}
+use lib.ListN.{length, take, drop, get_or}
+use lib.Seq.{drop-drop, get_or-take, get_or-drop}
+use mir.Syntax.{w64}
+use mir.Val.{SFits}
+use Rattle.std.specs.Int.{FitsUnsignedBits}
+use Rattle.std.specs.Simd.{first_chunks}
+use Rattle.std.specs.List.Sorted.{IsPartitionedBy, IsPartitionPoint}
+use Rattle.rules.specs.Bytes.{u32_at}
 use Rattle.rules.specs.Faithful.{Piece}
 use Rattle.rules.specs.Link.{run}
 use Rattle.rules.specs.Tables.{is_at}
 use Rattle.rules.specs.Lookups.{Rising}
-use Rattle.rules.specs.Pieces.{piece_row, piece_start, piece_at, pieces_of}
+use Rattle.rules.specs.Pieces.{piece_size, piece_row, piece_start, piece_at, pieces_of}
 use Rattle.rules.specs.Examine.{starts_at}
 use Rattle.rules.proofs.Halving as halving
 use Rattle.pieces.specs.Tiling.{listed, StartsRise, start_is_before, starts_before}
-
-abbrev pub Narrowed : List ℕ → ℕ → ℕ → ℕ → Type 0
-Narrowed t place low high = halving.Narrowed (start_is_before t place) (listed t) low high
 
 -- ---- tests joined
 and_false : (b : Bool) → (b && false) ≡ false
@@ -37,6 +42,15 @@ or_false false = refl
 none_before : (n : ℕ) (z : ℤ) → lt_z z (pos 0) ≡ true → is_at n z ≡ false
 none_before n (pos m) t = let h = ltb-true m 0 t in absurd (omega arith)
 none_before n (negsuc m) t = refl
+
+-- a number that no u64 is, and one that is
+pub unfit : (z : ℤ) → SFits w64 z → (FitsUnsignedBits 64 z → ⊥) → lt_z z (pos 0) ≡ true
+unfit (pos m) f n = absurd (n (omega (arith, f.sfits)))
+unfit (negsuc m) f n = refl
+
+pub place_is : (z : ℤ) → FitsUnsignedBits 64 z → z ≡ pos (nat_abs z)
+place_is (pos m) f = refl
+place_is (negsuc m) f = absurd f
 
 pub negative : (target : ℤ) (row : ℕ) (ps : List Piece) → lt_z target (pos 0) ≡ true → starts_at target row ps ≡ false
 unfolding starts_at
@@ -78,25 +92,76 @@ module _ (t : List ℕ) (target : ℤ) (row : ℕ) where
           ap (λ b. b || starts_at target row (run (piece_at t) (suc from) n)) (no_start from (f from (omega arith) (omega arith) (λ (e : from ≡ k). omega arith)))
           ∙ later less
 
+-- ---- a list as rows of eight bytes
+abbrev pub rows_of : List ℕ → List (List ℕ)
+rows_of t = first_chunks piece_size (listed t) t
+
+rows_length : (n : ℕ) (t : List ℕ) → length (first_chunks piece_size n t) ≡ n
+rows_length zero t = refl
+rows_length (suc n) t = ap suc (rows_length n (drop piece_size t))
+
+row_is : (n k : ℕ) (t d : List ℕ) → k < n → get_or (first_chunks piece_size n t) k d ≡ take piece_size (drop (piece_size * k) t)
+row_is zero k t d l = absurd (omega arith)
+row_is (suc n) zero t d l = refl
+row_is (suc n) (suc k) t d l =
+    let e : piece_size + piece_size * k ≡ piece_size * suc k = omega arith in
+    row_is n k (drop piece_size t) d (omega arith)
+    ∙ ap (take piece_size) (drop-drop (piece_size * k) piece_size t)
+    ∙ ap (λ m. take piece_size (drop m t)) e
+
+byte_is : (t : List ℕ) (at j n : ℕ) → j < piece_size → at + j ≡ n → get_or (take piece_size (drop at t)) j 0 ≡ get_or t n 0
+byte_is t at j n l e = get_or-take piece_size (drop at t) j 0 l ∙ get_or-drop at t j 0 ∙ ap (λ m. get_or t m 0) e
+
+start_is : (t : List ℕ) (k : ℕ) → piece_start (take piece_size (drop (piece_size * k) t)) 0 ≡ piece_start t k
+unfolding piece_start u32_at
+start_is t k =
+    let at = piece_size * k in
+    let a = byte_is t at 4 (at + 4) (omega arith) refl in
+    let b = byte_is t at 5 (at + 4 + 1) (omega arith) (omega arith) in
+    let c = byte_is t at 6 (at + 4 + 2) (omega arith) (omega arith) in
+    let d = byte_is t at 7 (at + 4 + 3) (omega arith) (omega arith) in
+    rw (a, b, c, d) refl
+
+before_is : (t d : List ℕ) (place k : ℕ) → k < listed t → start_is_before (get_or (rows_of t) k d) place 0 ≡ start_is_before t place k
+before_is t d place k l = ap (λ row. start_is_before row place 0) (row_is (listed t) k t d l) ∙ ap (λ n. ltb n place) (start_is t k)
+
 -- ---- starts that rise
 module _ (t : List ℕ) (rise : StartsRise t) (place : ℕ) where
   falls : (i j : ℕ) → i < j → j < listed t → start_is_before t place j ≡ true → start_is_before t place i ≡ true
   unfolding Rising
   falls i j l m e = lt-ltb (piece_start t i) place (omega (arith, rise i j l m, ltb-true (piece_start t j) place e))
 
-  pub unnarrowed : Narrowed t place 0 (listed t)
-  unnarrowed = halving.unnarrowed (start_is_before t place) (listed t) falls
+  -- where the rows that start before it end is how many there are
+  met : (r : ℕ) → r ≤ listed t → ((j : ℕ) → j < r → start_is_before t place j ≡ true) → ((j : ℕ) → r ≤ j → j < listed t → start_is_before t place j ≡ false)
+      → r ≡ starts_before t place
+  unfolding starts_before
+  met r l above under =
+      halving.met (start_is_before t place) (listed t) falls r r (record { meet = omega arith; inside = l; above = above; under = under }) (omega arith)
 
-  module _ (low high : ℕ) (so_far : Narrowed t place low high) where
-    pub from_below : (m : ℕ) → m < high → start_is_before t place m ≡ true → Narrowed t place (m + 1) high
-    from_below = halving.from_below (start_is_before t place) (listed t) falls low high so_far
+  -- what partition_point asks of the rows, and what it says of them
+  pub parted : IsPartitionedBy (λ row. start_is_before row place 0) (rows_of t)
+  parted i j d l h e = go (eq-or-lt_of_le l)
+    where
+      inside : j < listed t
+      inside = omega (arith, rows_length (listed t) t)
 
-    pub from_above : (m : ℕ) → low ≤ m → m ≤ high → start_is_before t place m ≡ false → Narrowed t place low m
-    from_above = halving.from_above (start_is_before t place) (listed t) falls low high so_far
+      there : start_is_before t place j ≡ true
+      there = sym (before_is t d place j inside) ∙ e
 
-    pub met : high ≤ low → low ≡ starts_before t place
-    unfolding starts_before
-    met = halving.met (start_is_before t place) (listed t) falls low high so_far
+      go : (i ≡ j) ⊎ (i < j) → start_is_before (get_or (rows_of t) i d) place 0 ≡ true
+      go (inl same) = ap (λ k. start_is_before (get_or (rows_of t) k d) place 0) same ∙ e
+      go (inr less) = before_is t d place i (omega (arith, inside)) ∙ falls i j less inside there
+
+  pub point_is : (r : ℕ) → r ≤ length (rows_of t) → IsPartitionPoint (λ row. start_is_before row place 0 ≡ true) (λ row. start_is_before row place 0 ≡ false) (rows_of t) r
+      → (r ≡ starts_before t place) × (r ≤ listed t)
+  point_is r l point =
+      let n = rows_length (listed t) t in
+      let h : r ≤ listed t = omega (arith, n) in (
+        met r h
+            (λ j g. sym (before_is t [] place j (omega (arith, g, h))) ∙ point.0 j [] (omega arith) g)
+            (λ j g i. sym (before_is t [] place j i) ∙ point.1 j [] g (omega (arith, n))),
+        h,
+      )
 
   earlier : (j : ℕ) → j < starts_before t place → piece_start t j < place
   unfolding starts_before

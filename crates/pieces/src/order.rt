@@ -1,39 +1,25 @@
 // The pieces of a link in order of placing, which is the order of their starts: written from the starts alone.
-ghost use Rattle.std.specs.Prelude.{◌≡◌, ◌+◌, ◌*◌, ◌≤◌, ◌<◌, length};
-ghost use Rattle.rules.specs.declared.Table.TheVariants.{Functions};
+ghost use Rattle.std.specs.Prelude.{◌≡◌, ◌+◌, ◌*◌, ◌≤◌, eqb, length, position};
 ghost use Rattle.rules.specs.Bytes.{splice};
-ghost use Rattle.rules.specs.Lookups.{found_of};
 ghost use Rattle.rules.specs.Pieces.{piece_size};
-ghost use Rattle.rules.specs.Rows.{most_rows};
-ghost use Rattle.pieces.specs.InOrder.{piece_bytes, row_at, Lists, Puts};
+ghost use Rattle.pieces.specs.InOrder.{piece_bytes, Lists, Puts};
 
 use rows::fields::function_slots;
-use rules::Found;
 use rules::limits::{FUNCTION_SIZE, MOST_FUNCTIONS, PIECE_SIZE};
-use wire::put_u32;
+use wire::put_numbers;
 
 fn put_piece(out: &mut [u8], k: usize, row: u32, start: u32)
     requires { piece_size * k + piece_size ≤ length out.old }
     ensures { out.new ≡ splice out.old (piece_size * k) (piece_bytes row start) }
 {
-    let at = PIECE_SIZE * k;
-    put_u32(out, at, row);
-    put_u32(out, at + 4, start);
+    put_numbers(out, PIECE_SIZE * k, [row, start]);
 }
 
-// The first of n functions that starts there.
-fn find_start(starts: &[u16; MOST_FUNCTIONS], n: usize, at: u16) -> Found
-    requires { n ≤ most_rows Functions }
-    ensures { result ≡ found_of (row_at starts.now n at) }
+// The first function that starts there.
+fn find_start(starts: &[u16], at: u16) -> Option<usize>
+    ensures { result ≡ position (λ start. eqb start at) starts.now }
 {
-    let mut k = 0;
-    while k < n {
-        if starts[k] == at {
-            return Found::At(k);
-        }
-        k += 1;
-    }
-    Found::Nothing
+    starts.iter().position(|start| *start == at)
 }
 
 // The root at 0, then each function that starts where the piece before it ends, up to the image's end; gives how many. At most as many follow
@@ -50,22 +36,16 @@ pub fn put_list(
 {
     put_piece(out, 0, root, 0);
     let n = functions.len() / FUNCTION_SIZE;
-    let first = function_slots(functions, root as usize);
-    let mut at = first.0;
-    let mut count = 1;
-    while count <= n {
+    let mut at = function_slots(functions, root as usize).0;
+    for count in 1..n + 1 {
         if at >= end {
             return count;
         }
-        let found = find_start(starts, n, at as u16);
-        let Found::At(row) = found else {
+        let Some(row) = find_start(&starts[..n], at as u16) else {
             return count;
         };
         put_piece(out, count, row as u32, at);
-        let own = function_slots(functions, row);
-        let slots = own.0;
-        at += slots;
-        count += 1;
+        at += function_slots(functions, row).0;
     }
-    count
+    n + 1
 }

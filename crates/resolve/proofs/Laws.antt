@@ -1,14 +1,14 @@
 -- What a slot means, and what it asks, is the same whatever tables 5, 7 and 8 hold; and a callee is a row of table 3.
 -- Assumes nothing.
 use mathlib.Core.Path.{◌≡◌, refl, sym, ap, ◌∙◌, subst}
-use mathlib.Core.Bool.{Bool, true, false}
+use mathlib.Core.Bool.{Bool, true, false, cond}
 use mathlib.Core.Option.{Option, none, some}
 use mathlib.Core.List.{[]}
 use Prim.Native.Nat.{ℕ, ◌<◌}
 use lib.IntN.{ℤ}
 use lib.Dec.{eqb}
 use Rattle.rules.specs.declared.Table.TheVariants.{Functions}
-use Rattle.rules.specs.Object.{Insn, is_call, is_wide_load, decide, meaning}
+use Rattle.rules.specs.Object.{Insn, reference, call, is_call, is_wide_load, decide, meaning}
 use Rattle.rules.specs.Bytes.{little}
 use Rattle.rules.specs.Tables.{SymbolKind, other, text, section, Symbol, Relocation, Function, by_symbol, by_symbol_row, by_relocation, first, object_of, relocation_at, row_of, insn_of}
 use Rattle.rules.specs.Rows.{whole_rows, Offered, map_step_offer, tables_of}
@@ -16,7 +16,8 @@ use Rattle.rules.specs.Lookups.{Checked}
 use Rattle.rules.proofs.Ending.{MeansRow, means_row}
 use Rattle.rules.proofs.Lookups.{names_rows}
 use Rattle.rules.proofs.Reading.{rows_are}
-use Rattle.resolve.specs.declared.Meaning.TheVariants.{Points}
+use Rattle.std.specs.Prelude as prelude
+use Rattle.resolve.specs.declared.Pointer.{Pointer}
 use Rattle.resolve.specs.Means.{Means, targets}
 
 -- the tables that say what a slot names, alone
@@ -74,7 +75,10 @@ module _ (o : Offered) where
       (means_row (object_of t).rows _ _ ((object_of t).named row slot) (names_rows t row slot))
 
   -- what a slot points to is a row of table 3
-  pub points_inside : (row slot callee : ℕ) (refers : Bool) → Means row slot (Points callee refers) (meaning (object_of (tables_of little o)) row slot)
-      → callee < whole_rows Functions o.functions
-  points_inside row slot callee true e = subst (MeansRow (whole_rows Functions o.functions)) e (row_meant row slot)
-  points_inside row slot callee false e = subst (MeansRow (whole_rows Functions o.functions)) e (row_meant row slot)
+  pub points_inside : (row slot : ℕ) (p : Pointer) → Means row slot (prelude.Ok (prelude.Some p)) (meaning (object_of (tables_of little o)) row slot)
+      → p.callee < whole_rows Functions o.functions
+  points_inside row slot p e = either p.reference (subst (MeansRow (whole_rows Functions o.functions)) e (row_meant row slot))
+    where
+      either : (refers : Bool) → MeansRow (whole_rows Functions o.functions) (cond refers (reference p.callee) (call p.callee)) → p.callee < whole_rows Functions o.functions
+      either true m = m
+      either false m = m

@@ -10,8 +10,8 @@ use borrow.Author.Tests.{lt-ltb, le-ltb, ltb-true, ltb-false}
 use lib.Dec.{eqb, ltb}
 use lib.ListN.{length}
 use Rattle.rules.specs.declared.Table.TheVariants.{Functions, Relocations}
-use Rattle.rules.specs.declared.Found.{Found}
-use Rattle.rules.specs.declared.Found.TheVariants.{At, Nothing}
+use Rattle.std.specs.Prelude as prelude
+use Rattle.std.specs.Prelude.{Some, None}
 use Rattle.rules.specs.Object.{Insn, is_call, is_blank, is_wide_load, decide, meaning}
 use Rattle.rules.specs.Faithful.{slot_at}
 use Rattle.rules.specs.Bytes.{little, slot_size, slot_in, decoded}
@@ -41,7 +41,7 @@ third true true x y e = e refl
 third true false x y e = refl
 third false b x y e = refl
 
-module _ {o : Offered} {row first slot : ℕ} {rel : Found} (r : Resolves o row first slot rel) where
+module _ {o : Offered} {row first slot : ℕ} {rel : (prelude.Option ℕ)} (r : Resolves o row first slot rel) where
   abbrev tables : Tables
   tables = tables_of little o
 
@@ -98,9 +98,9 @@ module _ {o : Offered} {row first slot : ℕ} {rel : Found} (r : Resolves o row 
   pub rel_within : Within rel (whole_rows Relocations relocations)
   rel_within = within rel r.rel_is
     where
-      within : (f : Found) → f ≡ found_of (relocation_with relocations (function_section functions row) (function_offset functions row + 8 * slot)) → Within f (whole_rows Relocations relocations)
-      within Nothing e = tt
-      within (At k) e = (relocation_found relocations (function_section functions row) (function_offset functions row + 8 * slot) k (sym e)).inside
+      within : (f : (prelude.Option ℕ)) → f ≡ found_of (relocation_with relocations (function_section functions row) (function_offset functions row + 8 * slot)) → Within f (whole_rows Relocations relocations)
+      within None e = tt
+      within (Some k) e = (relocation_found relocations (function_section functions row) (function_offset functions row + 8 * slot) k (sym e)).inside
 
   named_is : named_of tables row slot
       ≡ by_relocation tables (read_row (relocation_row relocations) (option_of rel)) (function_row functions row) slot (slot_in little instructions (first + slot))

@@ -2,8 +2,8 @@
 -- Assumes nothing.
 use Rattle.std.specs.Prelude.{◌≡◌, List, ℕ, ◌+◌, ◌*◌, ◌≤◌, ◌<◌, length}
 use Rattle.rules.specs.declared.Table.TheVariants.{Code, Symbols, Functions, Relocations}
-use Rattle.rules.specs.declared.Found.{Found}
-use Rattle.rules.specs.declared.Found.TheVariants.{At, Nothing}
+use Rattle.std.specs.Prelude as prelude
+use Rattle.std.specs.Prelude.{Some, None}
 use Rattle.rules.specs.Bytes.{slot_size}
 use Rattle.rules.specs.Rows.{whole_rows, most_address, Offered, summed, function_section, function_slots, function_offset}
 use Rattle.rules.specs.Lookups.{Sound, Checked, found_of, relocation_with}
@@ -22,19 +22,19 @@ pub record Related (code symbols functions relocations : List ℕ) (k : ℕ) : T
   pub relocations_sound : Sound Relocations relocations
   pub inside : k < whole_rows Relocations relocations
 
-abbrev pub Within : Found → ℕ → Type 0
-Within Nothing n = Unit {0}
-Within (At k) n = k < n
+abbrev pub Within : (prelude.Option ℕ) → ℕ → Type 0
+Within None n = Unit {0}
+Within (Some k) n = k < n
 
 -- a row of table 3, a slot of table 6, and a row of table 4 or none
-pub record Names (o : Offered) (row at : ℕ) (rel : Found) : Type 0 where
+pub record Asked (o : Offered) (row at : ℕ) (rel : (prelude.Option ℕ)) : Type 0 where
   pub tables : Checked o
   pub row_inside : row < whole_rows Functions o.functions
   pub slot_inside : slot_size * at + slot_size ≤ length o.instructions
   pub rel_inside : Within rel (whole_rows Relocations o.relocations)
 
 -- a slot of a row whose first slot in table 6 is `first`, with the slot's relocation
-pub record Resolves (o : Offered) (row first slot : ℕ) (rel : Found) : Type 0 where
+pub record Resolves (o : Offered) (row first slot : ℕ) (rel : (prelude.Option ℕ)) : Type 0 where
   pub tables : Checked o
   pub row_inside : row < whole_rows Functions o.functions
   pub slot_inside : slot < function_slots o.functions row

@@ -3,9 +3,14 @@
 use mathlib.Core.Path.{◌≡◌, refl, sym, ap, ◌∙◌}
 use mathlib.Core.Bool.{Bool, true, false, cond}
 use mathlib.Core.List.{List, [], ◌∷◌, ◌++◌, append_assoc, append-nil}
-use Prim.Native.Nat.{ℕ, zero, suc, ◌+◌, ◌*◌, ◌≤◌, ◌<◌}
+use Prim.Native.Nat.{ℕ, min, zero, suc, ◌+◌, ◌*◌, ◌/◌, ◌%◌, ◌^◌, ◌≤◌, ◌<◌}
 use native.Mathlib.Omega.{arith}
 use native.Mathlib.Numerals.{add-one}
+use native.Mathlib.Nat.{add-zero}
+use mathlib.Core.Option.{some}
+use Rattle.std.specs.Prelude.{Some}
+use Rattle.std.specs.List.{position_from}
+use Rattle.std.specs.Int.{to_le_bytes, w64}
 use borrow.Author.Tests.{ltb-true, ltb-false}
 use lib.Dec.{eqb, ltb}
 use lib.ListN.{length, get_or, take, drop, set, length-append}
@@ -14,7 +19,7 @@ use Rattle.rules.specs.declared.Table.TheVariants.{Symbols}
 use Rattle.rules.specs.Link.{run}
 use Rattle.rules.specs.Bytes.{little, byte_at, u32_at, bytes4, splice}
 use Rattle.rules.specs.Rows.{row_size, most_rows, whole_rows, symbol_index, first_from}
-use Rattle.rules.specs.Lookups.{symbol_with}
+use Rattle.rules.specs.Lookups.{symbol_with, found_of}
 use Rattle.rules.proofs.Splices.{splice_front, splice_rest, splice_length, one_put}
 use Rattle.rules.proofs.Writing.{u32_same}
 use Rattle.rows.specs.Matches.{symbol_matches}
@@ -63,6 +68,23 @@ looked_up ss x =
     let e : length ss ≡ whole_rows Symbols (bytes_of ss) = omega (arith, bytes_length ss) in
     ap (first_from (symbol_matches (bytes_of ss) x) 0) e
 
+-- a search of rows is the search of the numbers that its test gives at each
+pub place_first : (test : Symbol → Bool) (look : ℕ → Bool) (k : ℕ) (ss : List Symbol)
+    → ((j : ℕ) → j < length ss → look (k + j) ≡ test (get_or ss j no_symbol)) → position_from test k ss ≡ found_of (first_from look k (length ss))
+place_first test look k [] same = refl
+place_first test look k (s ∷ ss) same =
+    let rest : position_from test (k + 1) ss ≡ found_of (first_from look (suc k) (length ss)) =
+    rw add-one (place_first test look (suc k) ss (λ j l. let e : suc k + j ≡ k + suc j = omega arith in rw e (same (suc j) (omega arith)))) in
+    let here : look k ≡ test s = rw add-zero at (same 0 (omega arith)) in
+    go (test s) (look k) here rest
+  where
+    go : (a b : Bool) → b ≡ a → position_from test (k + 1) ss ≡ found_of (first_from look (suc k) (length ss))
+        → cond a (Some k) (position_from test (k + 1) ss) ≡ found_of (cond b (some k) (first_from look (suc k) (length ss)))
+    go true true e rest = refl
+    go false false e rest = rest
+    go true false e rest = absurd (cc)
+    go false true e rest = absurd (cc)
+
 -- ---- rows laid out
 pub splice_on : (d : List ℕ) (p q : ℕ) (a b : List ℕ) → p + length a ≡ q → q + length b ≤ length d → splice (splice d p a) q b ≡ splice d p (a ++ b)
 unfolding splice
@@ -101,13 +123,25 @@ row_put d p s a b e l n ea eb ee =
         ∙ one_put (splice d p (bytes4 little s.index ++ bytes4 little s.section ++ bytes8 s.address)) (p + 16) s.kind (omega (arith, splice_length d p (bytes4 little s.index ++ bytes4 little s.section ++ bytes8 s.address) (omega arith)))
         ∙ splice_on d p (p + 16) (bytes4 little s.index ++ bytes4 little s.section ++ bytes8 s.address) (s.kind ∷ []) (omega arith) (omega arith)
 
+-- a u64 as the library has its bytes
+pub eight_bytes : (v : ℕ) → v < 2 ^ 64 → to_le_bytes w64 v ≡ bytes8 v
+eight_bytes v l =
+    let e₀ : v % 256 ≡ v % 4294967296 % 256 = omega arith in
+    let e₁ : v / 256 % 256 ≡ v % 4294967296 / 256 % 256 = omega arith in
+    let e₂ : v / 65536 % 256 ≡ v % 4294967296 / 65536 % 256 = omega arith in
+    let e₃ : v / 16777216 % 256 ≡ v % 4294967296 / 16777216 = omega arith in
+    let e₅ : v / 1099511627776 % 256 ≡ v / 4294967296 / 256 % 256 = omega arith in
+    let e₆ : v / 281474976710656 % 256 ≡ v / 4294967296 / 65536 % 256 = omega arith in
+    let e₇ : v / 72057594037927936 % 256 ≡ v / 4294967296 / 16777216 = omega arith in
+    cc
+
 bytes_snoc : (xs : List Symbol) (s : Symbol) → bytes_of (xs ++ (s ∷ [])) ≡ bytes_of xs ++ row_bytes s
 unfolding bytes_of
 bytes_snoc [] s = append-nil (row_bytes s)
 bytes_snoc (x ∷ xs) s = ap (λ (bs : List ℕ). row_bytes x ++ bs) (bytes_snoc xs s) ∙ sym (append_assoc (row_bytes x) (bytes_of xs) (row_bytes s))
 
 -- as many rows are laid as there are or fewer, and they fit
-needed_few : (count : ℕ) → rows_needed count ≤ count
+pub needed_few : (count : ℕ) → rows_needed count ≤ count
 needed_few count = go (ltb (suc (most_rows Symbols)) count) refl
   where
     go : (b : Bool) → ltb (suc (most_rows Symbols)) count ≡ b → cond b (suc (most_rows Symbols)) count ≤ count
@@ -120,6 +154,13 @@ needed_most count = go (ltb (suc (most_rows Symbols)) count) refl
     go : (b : Bool) → ltb (suc (most_rows Symbols)) count ≡ b → cond b (suc (most_rows Symbols)) count ≤ suc (most_rows Symbols)
     go true e = omega arith
     go false e = ltb-false (suc (most_rows Symbols)) count e
+
+pub needed_min : (count : ℕ) → min count (suc (most_rows Symbols)) ≡ rows_needed count
+needed_min count = go (ltb (suc (most_rows Symbols)) count) refl
+  where
+    go : (b : Bool) → ltb (suc (most_rows Symbols)) count ≡ b → min count (suc (most_rows Symbols)) ≡ cond b (suc (most_rows Symbols)) count
+    go true e = omega (arith, ltb-true (suc (most_rows Symbols)) count e)
+    go false e = omega (arith, ltb-false (suc (most_rows Symbols)) count e)
 
 -- how the rows are laid into a room for the most, i of them done
 module _ (ys : List Symbol) (zs : List ℕ) where

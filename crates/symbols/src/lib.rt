@@ -8,19 +8,18 @@ ghost use Rattle.rules.specs.Rows.{row_size};
 ghost use Rattle.rules.specs.Lookups.{found_of, symbol_with};
 ghost use Rattle.symbols.specs.Symbols.{bytes8, row_bytes, bytes_of, rows_needed, rows_room, laid_in};
 
-use rules::Found;
 use rules::limits::{MOST_SYMBOLS, SYMBOL_SIZE};
 use wire::{copy, put_u32};
 
 // A row of table 2. C's layout of it on a little-endian host is the row's bytes.
 #[repr(C)]
-#[derive(Clone, Copy)]
+#[derive(Clone, Copy, PartialEq, Eq)]
 pub struct Symbol {
     pub index: u32,
     pub section: u32,
     pub address: u64,
     pub kind: u8,
-    pub padding: [u8; 7],
+    pub padding: [u8; PADDING],
 }
 
 const PADDING: usize = 7;
@@ -29,8 +28,7 @@ fn put_u64(out: &mut [u8], at: usize, v: u64)
     requires { at + 8 ≤ length out.old }
     ensures { out.new ≡ splice out.old at (bytes8 v) }
 {
-    put_u32(out, at, (v % 4294967296) as u32);
-    put_u32(out, at + 4, (v / 4294967296) as u32);
+    out[at..at + 8].copy_from_slice(&v.to_le_bytes());
 }
 
 // Row k of the byte table.
@@ -43,35 +41,17 @@ pub fn put_row(out: &mut [u8], k: usize, s: Symbol)
     put_u32(out, at + 4, s.section);
     put_u64(out, at + 8, s.address);
     out[at + 16] = s.kind;
-    let padding = s.padding;
-    copy(out, at + 17, &padding, 0, PADDING);
+    copy(out, at + 17, &s.padding, 0, PADDING);
 }
 
-// Room for as many rows as a link has to see.
+// Room for as many rows as a link has to see: one over table 2's limit is refused, whatever follows.
 pub const ROWS_ROOM: usize = SYMBOL_SIZE * (MOST_SYMBOLS + 1);
 
-// How many rows a link has to see: one over table 2's limit is refused, whatever follows.
-fn rows_needed(count: usize) -> usize
-    ensures { result ≡ rows_needed count }
-{
-    if MOST_SYMBOLS < count {
-        return MOST_SYMBOLS + 1;
-    }
-    count
-}
-
 // The first row with the index: what the byte table of the same rows answers.
-pub fn find_rows(rows: &[Symbol], index: u32) -> Found
+pub fn find_rows(rows: &[Symbol], index: u32) -> Option<usize>
     ensures { result ≡ found_of (symbol_with (bytes_of rows.now) index) }
 {
-    let mut i = 0;
-    while i < rows.len() {
-        if rows[i].index == index {
-            return Found::At(i);
-        }
-        i += 1;
-    }
-    Found::Nothing
+    rows.iter().position(|row| row.index == index)
 }
 
 // The rows that a link has to see as the byte table, from the start of `out` on, and how many they are.
@@ -79,11 +59,9 @@ pub fn lay_rows(rows: &[Symbol], out: &mut [u8]) -> usize
     requires { rows_room ≤ length out.old }
     ensures { (result ≡ rows_needed (length rows.now)) × (out.new ≡ laid_in rows.now out.old) }
 {
-    let n = rows_needed(rows.len());
-    let mut i = 0;
-    while i < n {
-        put_row(out, i, rows[i]);
-        i += 1;
+    let n = rows.len().min(MOST_SYMBOLS + 1);
+    for (i, row) in rows[..n].iter().enumerate() {
+        put_row(out, i, *row);
     }
     n
 }

@@ -11,6 +11,7 @@ use native.Mathlib.Omega.{arith}
 use lib.Dec.{ltb}
 use lib.ListN.{length}
 use borrow.Author.Tests.{le-ltb}
+use Rattle.rules.specs.Tables.{is_some}
 use Rattle.rules.specs.Walk.{Walk, standing, stopped, ended, left, Move, goes, chooses, enters, returns, stuck, arriving, step, walk}
 use Rattle.walk.specs.Runs.{answers_in, Stood, stands, stops, ends, leaves, lacks, deeper, stood, stood_in, runs_out, Frames, walk_from, writing, frames_after, frames_through, Stepped, Ran}
 use Rattle.walk.proofs.Runs.{FrameLaws, Kept, stays, halts, finishes, is_out, sinks, moving_kept, stack_length, standing_is, stopped_is}
@@ -146,9 +147,9 @@ module _ {Place Lent : Type 0} (frames : Frames Place Lent) (look : Place → Op
   begins_at : (m : Option (Move Place)) → look first ≡ m → walked 0 ≡ arriving look m first [] (answers_in answers)
   begins_at m e = ap (λ (o : Option (Move Place)). arriving look o first [] (answers_in answers)) e
 
-  pub begins : (m : Move Place) → look first ≡ some m → Running lent₀ 0 first 0 0
+  begins_with : (m : Move Place) → look first ≡ some m → Running lent₀ 0 first 0 0
   unfolding runs_out frames_through
-  begins m e = record {
+  begins_with m e = record {
     here = begins_at (some m) e;
     deep = omega arith;
     few = omega arith;
@@ -156,6 +157,13 @@ module _ {Place Lent : Type 0} (frames : Frames Place Lent) (look : Place → Op
     frames_are = refl;
     room_kept = refl;
   }
+
+  pub begins : is_some (look first) ≡ true → Running lent₀ 0 first 0 0
+  begins h = by (look first) refl h
+    where
+      by : (o : Option (Move Place)) → look first ≡ o → is_some o ≡ true → Running lent₀ 0 first 0 0
+      by none e t = never (sym t)
+      by (some m) e t = begins_with m e
 
   -- a walk that rests stays as it is
   record Settled (after : Lent) (w : Walk Place) (k : ℕ) : Type 0 where
@@ -201,16 +209,23 @@ module _ {Place Lent : Type 0} (frames : Frames Place Lent) (look : Place → Op
       }
 
   -- the first place has no slot
-  pub leaves_at_once : look first ≡ none → (limit : ℕ) → Ran frames look (length answers) lent₀ lent₀ walked limit leaves
+  leaves_from : look first ≡ none → (limit : ℕ) → Ran frames look (length answers) lent₀ lent₀ walked limit leaves
   unfolding runs_out frames_through
-  leaves_at_once e limit =
+  leaves_from e limit =
       let d : ltb (frames.room lent₀) 0 ≡ false = le-ltb (frames.room lent₀) 0 (omega arith) in
       rested lent₀ left leaves (record { shallow = d; stand = refl; still = refl; unwritten = λ lent. refl }) 0
       (record { here = begins_at none e; not_out = ap (deeper (frames.room lent₀)) (begins_at none e) ∙ d; frames_are = refl }) limit (omega arith)
 
-  pub arrives_last : (lent : Lent) (limit : ℕ) (at : Place) (depth taken : ℕ) → Running lent limit at depth taken
+  pub leaves_at_once : is_some (look first) ≡ false → (limit : ℕ) → Ran frames look (length answers) lent₀ lent₀ walked limit leaves
+  leaves_at_once h limit = by (look first) refl h
+    where
+      by : (o : Option (Move Place)) → look first ≡ o → is_some o ≡ false → Ran frames look (length answers) lent₀ lent₀ walked limit leaves
+      by none e t = leaves_from e limit
+      by (some m) e t = never t
+
+  arrives_now : (lent : Lent) (limit : ℕ) (at : Place) (depth taken : ℕ) → Running lent limit at depth taken
       → Ran frames look (length answers) lent₀ lent walked limit (stands at depth taken)
-  arrives_last lent limit at depth taken r =
+  arrives_now lent limit at depth taken r =
       let d : deeper (frames.room lent) (walk_from frames lent answers at depth taken) ≡ false =
       rw (stack_length frames lent depth) (le-ltb (frames.room lent) depth r.deep) in
       record {
@@ -221,6 +236,11 @@ module _ {Place Lent : Type 0} (frames : Frames Place Lent) (look : Place → Op
             ∙ ap (λ (b : Bool). cond b lacks (stood (length answers) (walked limit))) (sym r.not_out);
         frames_are = r.frames_are;
       }
+
+  pub arrives_last : {lent : Lent} {k limit depth taken : ℕ} {at : Place} → Running lent k at depth taken → k ≡ limit
+      → Ran frames look (length answers) lent₀ lent walked limit (stands at depth taken)
+  arrives_last {lent} {k} {limit} {depth} {taken} {at} r e =
+      subst (λ (n : ℕ). Ran frames look (length answers) lent₀ lent walked n (stands at depth taken)) e (arrives_now lent k at depth taken r)
 
   module _ (laws : FrameLaws frames) {lent after : Lent} {k depth taken : ℕ} {at : Place} {s : Stood Place} (r : Running lent k at depth taken)
       (p : Stepped frames look (length answers) lent after (walk_from frames lent answers at depth taken) s) where

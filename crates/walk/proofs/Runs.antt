@@ -10,7 +10,7 @@ use native.Mathlib.Omega.{arith}
 use lib.Dec.{eqb, ltb}
 use lib.ListN.{length, get_or, drop, length-drop, drop_of_length-le}
 use lib.Seq.{drop-cons}
-use borrow.Author.Tests.{lt-ltb, le-ltb, ltb-true, ltb-false, eq-eqb, ne_eqb}
+use borrow.Author.Tests.{lt-ltb, le-ltb, ltb-true, ltb-false, ne_eqb}
 use Rattle.rules.specs.Walk.{Walk, standing, stopped, ended, left, Move, goes, chooses, enters, returns, stuck, arriving, choosing, moving}
 use Rattle.walk.specs.Runs.{answers_in, answers_from, Stood, stands, stops, ends, leaves, lacks, deeper, stood_in, Frames, stack_of, walk_from, writing, Stepped}
 
@@ -191,20 +191,19 @@ module _ {Place Lent : Type 0} (frames : Frames Place Lent) (look : Place → Op
     pub unanswered : (a b : Place) → length answers ≤ t → stops at d ≡ stood_after at d t (some (chooses a b))
     unanswered a b h = rw (le-ltb t (length answers) h)
 
-    pub says_yes : (a b : Place) → t < length answers → get_or answers t 0 ≡ 1 → arrived (look a) a d (t + 1) ≡ stood_after at d t (some (chooses a b))
-    says_yes a b h e = rw (lt-ltb t (length answers) h, eq-eqb (get_or answers t 0) 1 e)
-
-    pub says_no : (a b : Place) → t < length answers → (get_or answers t 0 ≡ 1 → ⊥) → arrived (look b) b d (t + 1) ≡ stood_after at d t (some (chooses a b))
-    says_no a b h e = rw (lt-ltb t (length answers) h, ne_eqb (get_or answers t 0) 1 e)
+    pub chooses_one : (a b : Place) → t < length answers
+        → arrived (look (cond (eqb (get_or answers t 0) 1) a b)) (cond (eqb (get_or answers t 0) 1) a b) d (t + 1) ≡ stood_after at d t (some (chooses a b))
+    chooses_one a b h = rw (lt-ltb t (length answers) h) (by (eqb (get_or answers t 0) 1))
+      where
+        by : (v : Bool) → arrived (look (cond v a b)) (cond v a b) d (t + 1) ≡ cond v (arrived (look a) a d (t + 1)) (arrived (look b) b d (t + 1))
+        by true = refl
+        by false = refl
 
     pub finds_none : (first back : Place) → frames.room lent ≤ d → frameless (look first) ≡ stood_after at d t (some (enters first back))
     finds_none first back h = rw (le-ltb d (frames.room lent) h)
 
     pub finds_one : (first back : Place) → d < frames.room lent → arrived (look first) first (d + 1) t ≡ stood_after at d t (some (enters first back))
     finds_one first back h = rw (lt-ltb d (frames.room lent) h)
-
-    pub is_empty : d ≡ 0 → ends at ≡ stood_after at d t (some returns)
-    is_empty e = rw (eq-eqb d 0 e)
 
     pub pops : (d ≡ 0 → ⊥) → arrived (look (frames.held lent (d - 1))) (frames.held lent (d - 1)) (d - 1) t ≡ stood_after at d t (some returns)
     pops e = rw (ne_eqb d 0 e)

@@ -1,5 +1,6 @@
 -- What the code finds at a place, as the definitions' own.
 -- Assumes nothing.
+use Rattle.std.specs.Prelude as prelude
 use Rattle.std.specs.Prelude.{◌≡◌, List, ℕ, ◌*◌, ◌≤◌, ℤ, pos, ◌+ℤ◌, length, take}
 use Rattle.std.proofs.Math.Option.{Option, none, some}
 use Rattle.rules.specs.Object.{Insn}
@@ -7,15 +8,20 @@ use Rattle.rules.specs.Bytes.{little, slot_size, decoded}
 use Rattle.rules.specs.Walk.{Move, goes, chooses, enters, returns, stuck, leads}
 use Rattle.insn.specs.Kinds.{codes}
 use Rattle.walk.specs.declared.Move as found
-use Rattle.walk.specs.declared.Move.TheVariants.{Outside, Goes, Chooses, Enters, Returns, Stuck}
+use Rattle.walk.specs.declared.Move.TheVariants.{Goes, Chooses, Enters, Returns, Stuck}
 
-abbrev pub move_of : found.Move → Option (Move ℤ)
-move_of Outside = none
-move_of (Goes next) = some (goes next)
-move_of (Chooses onYes onNo) = some (chooses onYes onNo)
-move_of (Enters first back) = some (enters first back)
-move_of Returns = some returns
-move_of Stuck = some stuck
+module _ {Place : Type 0} where
+  abbrev pub moved : found.Move Place → Move Place
+  moved (Goes next) = goes next
+  moved (Chooses onYes onNo) = chooses onYes onNo
+  moved (Enters first back) = enters first back
+  moved Returns = returns
+  moved Stuck = stuck
+
+  -- what one sees at a place; nothing outside
+  abbrev pub move_of : prelude.Option (found.Move Place) → Option (Move Place)
+  move_of prelude.None = none
+  move_of (prelude.Some move) = some (moved move)
 
 -- the table of kinds, and an image of so many slots at the start of a buffer
 pub record Ground (kinds image : List ℕ) (slots : ℕ) : Type 0 where

@@ -1,55 +1,167 @@
-// The two walks of demand 3: where a slot leads, and a walk's steps.
+// The two walks of demand 3: a walk's steps over any ground, and the image's walk.
 #![tactic(auto)]
 
-ghost use Rattle.std.specs.Prelude.{◌≡◌, ◌+◌, ◌*◌, ◌≤◌, ◌<◌, pos, ◌+ℤ◌, length};
+ghost use Rattle.std.specs.Prelude.{◌≡◌, ◌+◌, ◌*◌, ◌≤◌, Option, Some, pos, ◌+ℤ◌, length};
 ghost use Rattle.rules.specs.Bytes.{little, slot_in, slot_size};
 ghost use Rattle.rules.specs.Lookups.{found_of};
+ghost use Rattle.rules.specs.Tables.{is_some};
+ghost use Rattle.std.proofs.Math.Option as math;
+ghost use Rattle.rules.specs.Walk as walks;
 ghost use Rattle.rules.specs.Walk.{in_image, within};
 ghost use Rattle.insn.specs.Kinds.{codes};
 ghost use Rattle.walk.specs.Moves.{move_of, Ground, image_in, leads_in};
-ghost use Rattle.walk.specs.Steps.{arrived_at, frameless_at, Stepping, ImageStepped, ImageRan, ImageWalked};
+ghost use Rattle.walk.specs.Steps.{arrived_at, frameless_at, Fitting, SteppedOver, RanOver, ImageWalked};
 
 use insn::kinds::{kind_of, table};
 use insn::{immediate, insn_is_call, offset, opcode, slot_at};
 use rules::limits::{INSTRUCTION_SIZE, MOST_IMAGE_SLOTS};
-use rules::{Found, Kind, Slot};
+use rules::{Kind, Slot};
 
 // Where a slot leads; places outside are places too.
 #[derive(Clone, Copy)]
-pub enum Move {
-    Outside,
-    Goes(i64),
+pub enum Move<P> {
+    Goes(P),
     // on yes, on no
-    Chooses(i64, i64),
+    Chooses(P, P),
     // the callee's first slot, the slot to return to
-    Enters(i64, i64),
+    Enters(P, P),
     Returns,
     Stuck,
 }
 
-// A walk's state: the place, how many frames and how many answers are used.
+// Where a walk stands: the place, how many frames and how many answers are used.
 #[derive(Clone, Copy)]
-pub enum Stand {
-    Standing(i64, usize, usize),
-    Stopped(i64, usize),
-    Ended(i64),
+pub struct Here<P> {
+    pub at: P,
+    pub depth: usize,
+    pub taken: usize,
+}
+
+// A walk's state.
+#[derive(Clone, Copy)]
+pub enum Stand<P> {
+    Standing(Here<P>),
+    // with so many frames used
+    Stopped(P, usize),
+    Ended(P),
     Left,
     // a call found no frame left
     NoFrame,
 }
 
-#[derive(Clone, Copy)]
-pub enum ImageRun {
-    Came(Stand),
-    // more slots than an image may hold
-    TooLong,
+// What a walk goes over.
+pub trait Ground {
+    type Place: Copy;
+
+    // what one sees at a place
+    ghost sight: { Self → Self.Place → math.Option (walks.Move Self.Place) };
+
+    // what the frames would hold past their end
+    ghost blank: { Self.Place };
+
+    // Where the slot at a place leads; nothing outside.
+    fn look(&self, at: Self::Place) -> Option<Move<Self::Place>>
+        ensures { move_of result ≡ sight self.now at };
+
+    // Is a slot there?
+    fn has(&self, at: Self::Place) -> bool
+        ensures { result ≡ is_some (sight self.now at) };
+}
+
+fn arrive<G: Ground>(ground: &G, at: G::Place, depth: usize, taken: usize) -> Stand<G::Place>
+    ensures { result ≡ arrived_at (G.sight ground.now) at depth taken }
+{
+    if ground.has(at) {
+        Stand::Standing(Here { at, depth, taken })
+    } else {
+        Stand::Left
+    }
+}
+
+// A call for which there is no frame: it may lead outside.
+fn frameless<G: Ground>(ground: &G, first: G::Place) -> Stand<G::Place>
+    ensures { result ≡ frameless_at (G.sight ground.now) first }
+{
+    if ground.has(first) {
+        Stand::NoFrame
+    } else {
+        Stand::Left
+    }
+}
+
+pub fn step<G: Ground>(
+    ground: &G,
+    frames: &mut [G::Place],
+    answers: &[u8],
+    here: Here<G::Place>,
+) -> Stand<G::Place>
+    requires { Fitting frames.old answers.now here }
+    ensures { SteppedOver (G.sight ground.now) G.blank frames.old frames.new answers.now here result }
+{
+    let Here { at, depth, taken } = here;
+    let Some(found) = ground.look(at) else {
+        return Stand::Left;
+    };
+    match found {
+        Move::Goes(next) => arrive(ground, next, depth, taken),
+        Move::Chooses(on_yes, on_no) => {
+            if taken >= answers.len() {
+                return Stand::Stopped(at, depth);
+            }
+            let next = if answers[taken] == 1 { on_yes } else { on_no };
+            arrive(ground, next, depth, taken + 1)
+        }
+        Move::Enters(first, back) => {
+            if depth >= frames.len() {
+                return frameless(ground, first);
+            }
+            frames[depth] = back;
+            arrive(ground, first, depth + 1, taken)
+        }
+        Move::Returns => {
+            if depth == 0 {
+                return Stand::Ended(at);
+            }
+            let top = depth - 1;
+            arrive(ground, frames[top], top, taken)
+        }
+        Move::Stuck => Stand::Stopped(at, depth),
+    }
+}
+
+// At most `limit` steps from a place.
+pub fn run<G: Ground>(
+    ground: &G,
+    frames: &mut [G::Place],
+    answers: &[u8],
+    first: G::Place,
+    limit: usize,
+) -> Stand<G::Place>
+    ensures { RanOver (G.sight ground.now) G.blank frames.old frames.new answers.now first limit result }
+{
+    if !ground.has(first) {
+        return Stand::Left;
+    }
+    let mut here = Here {
+        at: first,
+        depth: 0,
+        taken: 0,
+    };
+    for _ in 0..limit {
+        let next = step(ground, frames, answers, here);
+        let Stand::Standing(there) = next else {
+            return next;
+        };
+        here = there;
+    }
+    Stand::Standing(here)
 }
 
 // Exact at 64 bits for every slot and immediate.
 pub fn ahead(slot: Slot, by: u32, d: i32) -> i64
     ensures { result ≡ pos slot.0 +ℤ (pos by +ℤ d) }
 {
-    (slot.0 as u64 + by as u64) as i64 + d as i64
+    i64::from(slot.0) + i64::from(by) + i64::from(d)
 }
 
 // The offset, widened to an immediate's size.
@@ -57,198 +169,92 @@ pub fn jump(code: &[u8], here: Slot) -> i32
     requires { slot_size * here.0 + slot_size ≤ length code.now }
     ensures { result ≡ (slot_in little code.now here.0).offset }
 {
-    offset(code, here) as i32
+    i32::from(offset(code, here))
 }
 
 // The slot at a place, of a run of so many.
-pub fn slot_in(at: i64, slots: u32) -> Found
+pub fn slot_in(at: i64, slots: u32) -> Option<usize>
     ensures { result ≡ found_of (within slots (λ n. n) at) }
 {
-    if at < 0 {
-        return Found::Nothing;
-    }
-    if at >= slots as i64 {
-        return Found::Nothing;
-    }
-    Found::At(at as usize)
+    let slot = usize::try_from(at).ok()?;
+    (slot < slots as usize).then_some(slot)
 }
 
 // The slot that lies at `here` of some code, as slot `slot` of its function or image; a call as an image has it.
-pub fn leads_at(kinds: &[u8; 256], code: &[u8], here: Slot, slot: Slot) -> Move
+pub fn leads_at(kinds: &[u8; 256], code: &[u8], here: Slot, slot: Slot) -> Move<i64>
     requires { (kinds.now ≡ codes) × (slot_size * here.0 + slot_size ≤ length code.now) }
-    ensures { move_of result ≡ leads_in (slot_in little code.now here.0) slot.0 }
+    ensures { move_of (Some result) ≡ leads_in (slot_in little code.now here.0) slot.0 }
 {
-    let kind = kind_of(kinds, opcode(code, here));
-    match kind {
-        Kind::Plain => {
-            return Move::Goes(ahead(slot, 1, 0));
-        }
-        Kind::WideLoad => {
-            return Move::Goes(ahead(slot, 2, 0));
-        }
-        Kind::JumpByOffset => {
-            return Move::Goes(ahead(slot, 1, jump(code, here)));
-        }
-        Kind::JumpByImmediate => {
-            return Move::Goes(ahead(slot, 1, immediate(code, here)));
-        }
+    match kind_of(kinds, opcode(code, here)) {
+        Kind::Plain => Move::Goes(ahead(slot, 1, 0)),
+        Kind::WideLoad => Move::Goes(ahead(slot, 2, 0)),
+        Kind::JumpByOffset => Move::Goes(ahead(slot, 1, jump(code, here))),
+        Kind::JumpByImmediate => Move::Goes(ahead(slot, 1, immediate(code, here))),
         Kind::Conditional => {
             let on_yes = ahead(slot, 1, jump(code, here));
             let on_no = ahead(slot, 1, 0);
-            return Move::Chooses(on_yes, on_no);
+            Move::Chooses(on_yes, on_no)
         }
         Kind::CallByte => {
-            if !insn_is_call(code, here) {
-                return Move::Goes(ahead(slot, 1, 0));
+            if insn_is_call(code, here) {
+                let first = ahead(slot, 1, immediate(code, here));
+                Move::Enters(first, ahead(slot, 1, 0))
+            } else {
+                Move::Goes(ahead(slot, 1, 0))
             }
-            let first = ahead(slot, 1, immediate(code, here));
-            return Move::Enters(first, ahead(slot, 1, 0));
         }
-        Kind::Exit => {
-            return Move::Returns;
-        }
-        Kind::Unknown => {
-            return Move::Stuck;
-        }
+        Kind::Exit => Move::Returns,
+        Kind::Unknown => Move::Stuck,
     }
 }
 
-pub fn image_move(kinds: &[u8; 256], image: &[u8], slots: u32, at: i64) -> Move
-    requires { Ground kinds.now image.now slots }
-    ensures { move_of result ≡ in_image (image_in image.now slots) at }
-{
-    let found = slot_in(at, slots);
-    match found {
-        Found::Nothing => {
-            return Move::Outside;
-        }
-        Found::At(slot) => {
-            let here = slot_at(slot as u32);
-            return leads_at(kinds, image, here, here);
-        }
+// An image of so many slots at the start of a buffer, with the table of kinds.
+#[derive(Clone, Copy)]
+pub struct ImageGround<'a> {
+    pub kinds: &'a [u8; 256],
+    pub image: &'a [u8],
+    pub slots: u32,
+    ghost ground: { Ground kinds.now image.now slots },
+}
+
+impl Ground for ImageGround<'_> {
+    type Place = i64;
+
+    ghost sight = { λ p. in_image (image_in p.image.now p.slots) };
+
+    ghost blank = { pos 0 };
+
+    fn look(&self, at: i64) -> Option<Move<i64>> {
+        let slot = slot_at(slot_in(at, self.slots)? as u32);
+        Some(leads_at(self.kinds, self.image, slot, slot))
+    }
+
+    fn has(&self, at: i64) -> bool {
+        slot_in(at, self.slots).is_some()
     }
 }
 
-pub fn arrive(slots: u32, at: i64, depth: usize, taken: usize) -> Stand
-    ensures { result ≡ arrived_at slots at depth taken }
-{
-    let found = slot_in(at, slots);
-    match found {
-        Found::Nothing => {
-            return Stand::Left;
-        }
-        Found::At(_) => {
-            return Stand::Standing(at, depth, taken);
-        }
-    }
-}
+// More slots than an image may hold.
+#[derive(Clone, Copy)]
+pub struct TooLong;
 
-// A call for which there is no frame: it may lead outside.
-pub fn frameless(slots: u32, at: i64) -> Stand
-    ensures { result ≡ frameless_at slots at }
-{
-    let found = slot_in(at, slots);
-    match found {
-        Found::Nothing => {
-            return Stand::Left;
-        }
-        Found::At(_) => {
-            return Stand::NoFrame;
-        }
-    }
-}
-
-pub fn image_step(
-    kinds: &[u8; 256],
+// The walk of an image's whole slots, from its first one, at most `limit` steps. Any bytes may be offered.
+pub fn walk_image(
     image: &[u8],
-    slots: u32,
-    frames: &mut [i64],
-    answers: &[u8],
-    at: i64,
-    depth: usize,
-    taken: usize,
-) -> Stand
-    requires { Stepping kinds.now image.now slots frames.old answers.now depth taken }
-    ensures { ImageStepped (image_in image.now slots) frames.old frames.new answers.now at depth taken result }
-{
-    let found = image_move(kinds, image, slots, at);
-    match found {
-        Move::Outside => {
-            return Stand::Left;
-        }
-        Move::Goes(next) => {
-            return arrive(slots, next, depth, taken);
-        }
-        Move::Chooses(on_yes, on_no) => {
-            if taken >= answers.len() {
-                return Stand::Stopped(at, depth);
-            }
-            if answers[taken] == 1 {
-                return arrive(slots, on_yes, depth, taken + 1);
-            }
-            return arrive(slots, on_no, depth, taken + 1);
-        }
-        Move::Enters(first, back) => {
-            if depth >= frames.len() {
-                return frameless(slots, first);
-            }
-            frames[depth] = back;
-            return arrive(slots, first, depth + 1, taken);
-        }
-        Move::Returns => {
-            if depth == 0 {
-                return Stand::Ended(at);
-            }
-            let top = depth - 1;
-            return arrive(slots, frames[top], top, taken);
-        }
-        Move::Stuck => {
-            return Stand::Stopped(at, depth);
-        }
-    }
-}
-
-// At most `limit` steps from the first slot of an image.
-pub fn image_run(
-    kinds: &[u8; 256],
-    image: &[u8],
-    slots: u32,
     frames: &mut [i64],
     answers: &[u8],
     limit: usize,
-) -> Stand
-    requires { Ground kinds.now image.now slots }
-    ensures { ImageRan (image_in image.now slots) frames.old frames.new answers.now limit result }
-{
-    if slots == 0 {
-        return Stand::Left;
-    }
-    let mut at: i64 = 0;
-    let mut depth = 0;
-    let mut taken = 0;
-    let mut k = 0;
-    while k < limit {
-        let next = image_step(kinds, image, slots, frames, answers, at, depth, taken);
-        let Stand::Standing(place, used, told) = next else {
-            return next;
-        };
-        at = place;
-        depth = used;
-        taken = told;
-        k += 1;
-    }
-    Stand::Standing(at, depth, taken)
-}
-
-// The walk of an image's whole slots, from its first one, at most `limit` steps. Any bytes may be offered.
-pub fn walk_image(image: &[u8], frames: &mut [i64], answers: &[u8], limit: usize) -> ImageRun
+) -> Result<Stand<i64>, TooLong>
     ensures { ImageWalked image.now frames.old frames.new answers.now limit result }
 {
     let slots = image.len() / INSTRUCTION_SIZE;
     if slots > MOST_IMAGE_SLOTS {
-        return ImageRun::TooLong;
+        return Err(TooLong);
     }
-    let kinds = table();
-    let stand = image_run(&kinds, image, slots as u32, frames, answers, limit);
-    ImageRun::Came(stand)
+    let ground = ImageGround {
+        kinds: &table(),
+        image,
+        slots: slots as u32,
+    };
+    Ok(run(&ground, frames, answers, 0, limit))
 }

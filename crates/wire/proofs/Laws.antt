@@ -34,7 +34,7 @@ signed_back order d p z h f =
     ∙ to_z-of_z w32 z f
 
 -- ---- places
-numbers_length : (ps : List ℕ) → length (numbers ps) ≡ 4 * length ps
+pub numbers_length : (ps : List ℕ) → length (numbers ps) ≡ 4 * length ps
 numbers_length [] = omega arith
 numbers_length (p ∷ ps) = omega (arith, numbers_length ps)
 

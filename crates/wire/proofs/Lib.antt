@@ -1,4 +1,4 @@
-pub mod Signed
-pub mod Zeros
+pub mod Bits
+pub mod Stores
 pub mod Places
 pub mod Laws

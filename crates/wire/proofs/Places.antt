@@ -2,12 +2,14 @@
 -- Assumes nothing.
 use mathlib.Core.Path.{◌≡◌, refl, sym, ap, ◌∙◌}
 use mathlib.Core.List.{List, [], ◌∷◌, ◌++◌, append_assoc}
-use Prim.Native.Nat.{ℕ, zero, suc, ◌+◌, ◌-◌, ◌/◌, ◌≤◌, ◌<◌}
+use Prim.Native.Nat.{ℕ, ◌+◌, ◌*◌, ◌-◌, ◌/◌, ◌≤◌, ◌<◌}
 use native.Mathlib.Omega.{arith}
-use lib.ListN.{length, take, drop, replicate, replicate-append-replicate, length-replicate}
-use lib.Seq.{take_at, drop-append-add, drop_at}
+use native.Mathlib.Numerals.{add-one}
+use lib.ListN.{length, get_or, take, drop, replicate, replicate-append-replicate, length-append, length-replicate}
+use lib.Seq.{take_at, take_all, take-suc, length-take-le, drop-append-add, drop_at}
 use Rattle.rules.specs.Bytes.{little, bytes4, splice, padded}
 use Rattle.rules.specs.Answers.{numbers, places_in}
+use Rattle.wire.proofs.Laws.{numbers_length}
 
 drop_zeros : (k n : ℕ) → k ≤ n → drop {A = ℕ} k (replicate n 0) ≡ replicate (n - k) 0
 drop_zeros k n h =
@@ -26,50 +28,45 @@ at_seam p vs n k e h =
     ∙ ap (λ (m : ℕ). p ++ (vs ++ drop (m + length vs) (p ++ replicate n 0))) (sym e)
     ∙ ap (λ (l : List ℕ). p ++ (vs ++ l)) (drop-append-add p (replicate n 0) (length vs) ∙ drop_zeros (length vs) n h)
 
-module _ (a b c n : ℕ) where
-  fitting : (m : ℕ) → n / 4 ≡ m → padded n (numbers (take m (a ∷ b ∷ c ∷ []))) ≡ places_in n (a ∷ b ∷ c ∷ [])
+numbers_append : (xs ys : List ℕ) → numbers (xs ++ ys) ≡ numbers xs ++ numbers ys
+numbers_append [] ys = refl
+numbers_append (x ∷ xs) ys = ap (λ (l : List ℕ). bytes4 little x ++ l) (numbers_append xs ys)
+
+-- before the first
+pub none_put : (n : ℕ) → replicate n 0 ≡ padded n []
+unfolding padded
+none_put n = let e : n ≡ n - 0 = omega arith in ap (λ (k : ℕ). replicate k 0) e
+
+module _ (ps : List ℕ) (n i : ℕ) where
+  pub front : i ≤ length ps → length (numbers (take i ps)) ≡ 4 * i
+  front h = numbers_length (take i ps) ∙ ap (λ (k : ℕ). 4 * k) (length-take-le i ps h)
+
+  pub one_more : i < length ps → numbers (take (i + 1) ps) ≡ numbers (take i ps) ++ bytes4 little (get_or ps i 0)
+  one_more h =
+      ap (λ (k : ℕ). numbers (take k ps)) (add-one i)
+      ∙ ap numbers (take-suc ps i 0 h)
+      ∙ numbers_append (take i ps) (get_or ps i 0 ∷ [])
+
+  -- the next number, put where the first i end
+  pub put_next : i < length ps → 4 * i + 4 ≤ n
+      → splice (padded n (numbers (take i ps))) (4 * i) (bytes4 little (get_or ps i 0)) ≡ padded n (numbers (take (i + 1) ps))
+  unfolding padded
+  put_next h g =
+      let v : List ℕ = bytes4 little (get_or ps i 0) in
+      let e : n - length (numbers (take i ps)) ≡ n - 4 * i = omega (arith, front (omega arith)) in
+      let m : n - 4 * i - 4 ≡ n - (4 * i + 4) = omega arith in
+      rw (e, one_more h, length-append (numbers (take i ps)) v, front (omega arith))
+      (
+      at_seam (numbers (take i ps)) v (n - 4 * i) (4 * i) (front (omega arith)) (omega arith)
+      ∙ sym (append_assoc (numbers (take i ps)) v (replicate (n - 4 * i - 4) 0))
+      ∙ ap (λ (k : ℕ). numbers (take i ps) ++ v ++ replicate k 0) m
+      )
+
+  -- where the next does not fit, and where there is none
+  pub no_room : 4 * i ≤ n → n < 4 * i + 4 → padded n (numbers (take i ps)) ≡ places_in n ps
   unfolding places_in
-  fitting m e = ap (λ (k : ℕ). padded n (numbers (take k (a ∷ b ∷ c ∷ [])))) (sym e)
+  no_room h g = let e : i ≡ n / 4 = omega arith in ap (λ (k : ℕ). padded n (numbers (take k ps))) e
 
-  pub places0 : n < 4 → replicate n 0 ≡ places_in n (a ∷ b ∷ c ∷ [])
-  unfolding padded
-  places0 h = let e : n ≡ n - 0 = omega arith in ap (λ (k : ℕ). replicate k 0) e ∙ fitting 0 (omega arith)
-
-  one : 4 ≤ n → splice (replicate n 0) 0 (bytes4 little a) ≡ bytes4 little a ++ replicate (n - 4) 0
-  one h = at_seam [] (bytes4 little a) n 0 refl h
-
-  two : 8 ≤ n → splice (splice (replicate n 0) 0 (bytes4 little a)) 4 (bytes4 little b) ≡ bytes4 little a ++ (bytes4 little b ++ replicate (n - 8) 0)
-  two h =
-      let e : n - 4 - 4 ≡ n - 8 = omega arith in
-      ap (λ (l : List ℕ). splice l 4 (bytes4 little b)) (one (omega arith))
-      ∙ at_seam (bytes4 little a) (bytes4 little b) (n - 4) 4 refl (omega arith)
-      ∙ ap (λ (k : ℕ). bytes4 little a ++ (bytes4 little b ++ replicate k 0)) e
-
-  three : 12 ≤ n
-      → splice (splice (splice (replicate n 0) 0 (bytes4 little a)) 4 (bytes4 little b)) 8 (bytes4 little c)
-      ≡ bytes4 little a ++ (bytes4 little b ++ (bytes4 little c ++ replicate (n - 12) 0))
-  three h =
-      let e : n - 8 - 4 ≡ n - 12 = omega arith in
-      ap (λ (l : List ℕ). splice l 8 (bytes4 little c)) (two (omega arith))
-      ∙ at_seam (bytes4 little a ++ bytes4 little b) (bytes4 little c) (n - 8) 8 refl (omega arith)
-      ∙ ap (λ (k : ℕ). bytes4 little a ++ (bytes4 little b ++ (bytes4 little c ++ replicate k 0))) e
-
-  pub places1 : 4 ≤ n → n < 8 → splice (replicate n 0) 0 (bytes4 little a) ≡ places_in n (a ∷ b ∷ c ∷ [])
-  unfolding padded
-  places1 h g = one h ∙ fitting 1 (omega arith)
-
-  pub places2 : 8 ≤ n → n < 12 → splice (splice (replicate n 0) 0 (bytes4 little a)) 4 (bytes4 little b) ≡ places_in n (a ∷ b ∷ c ∷ [])
-  unfolding padded
-  places2 h g = two h ∙ fitting 2 (omega arith)
-
-  all_three : (m : ℕ) → take (suc (suc (suc m))) (a ∷ b ∷ c ∷ []) ≡ a ∷ b ∷ c ∷ []
-  all_three zero = refl
-  all_three (suc m) = refl
-
-  pub places3 : 12 ≤ n
-      → splice (splice (splice (replicate n 0) 0 (bytes4 little a)) 4 (bytes4 little b)) 8 (bytes4 little c) ≡ places_in n (a ∷ b ∷ c ∷ [])
-  unfolding padded
-  places3 h =
-      three h
-      ∙ ap (λ (l : List ℕ). padded n (numbers l)) (sym (all_three (n / 4 - 3)))
-      ∙ fitting (suc (suc (suc (n / 4 - 3)))) (omega arith)
+  pub all_put : length ps ≤ i → 4 * i ≤ n → padded n (numbers (take i ps)) ≡ places_in n ps
+  unfolding places_in
+  all_put h g = ap (λ (l : List ℕ). padded n (numbers l)) (take_all i ps h ∙ sym (take_all (n / 4) ps (omega arith)))

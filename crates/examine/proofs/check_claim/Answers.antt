@@ -4,46 +4,54 @@ use mathlib.Core.Option.{none}
 use Prim.Native.Nat.{◌/◌}
 use native.Mathlib.Omega.{arith}
 use lib.ListN.{length}
+use Rattle.std.specs.Prelude.{Err}
+use Rattle.std.proofs.lemmas.Result.{err_from_is_err_and}
 use Rattle.rules.specs.Answers.{refusal_in}
 use Rattle.rules.specs.Rows.{Offered, link_offer}
 use Rattle.rules.specs.Pieces.{pieces_of}
 use Rattle.rules.specs.Examine.{Shown, shown, root_wrong, tiles_wrong}
 use Rattle.pieces.specs.Tiling.{functions_only}
 use Rattle.examine.proofs.Whole.{root_wrong_lem, tiles_wrong_lem, pieces_judged, tileable, image_few, listed_so, end_at}
-use Rattle.examine.proofs.check_claim.Goals.{After-check_tiles-tiled, In_default, Start}
+use Rattle.examine.proofs.check_claim.Goals.{After-check_tiles, In_ok-check_root, Start}
 use Rattle.examine.proofs.check_claim.Goals as goal
 
 abbrev tables : Start → Offered
 tables s =
     let a = s.args in
-    link_offer a.code.now a.symbols.now a.functions.now a.relocations.now a.instructions.now a.func_info.now a.line_info.now
+    link_offer a.names.code.now a.names.symbols.now a.names.functions.now a.names.relocations.now a.program.instructions.now a.program.func_info.now a.program.line_info.now
 
 abbrev shownAt : Start → Shown
-shownAt s = let a = s.args in shown a.image.now a.image_func_info.now a.image_line_info.now a.pieces.now
+shownAt s = let a = s.args in shown a.shown.instructions.now a.shown.func_info.now a.shown.line_info.now a.pieces.now
 
-root_first : (c : In_default) → root_wrong c.args.root (pieces_of c.args.pieces.now) ≡ none
-root_first c = sym c.check_root-first.ensures ∙ ap refusal_in c.in_default.is
+root_first : (c : In_ok-check_root) → root_wrong c.args.root (pieces_of c.args.pieces.now) ≡ none
+root_first c = sym c.check_root.ensures ∙ ap refusal_in c.in_ok-check_root.was
 
-tiles_are : (c : After-check_tiles-tiled) → tiles_wrong (functions_only c.args.functions.now) (length c.args.image.now / 8) 0 0 (pieces_of c.args.pieces.now) ≡ refusal_in c.check_tiles-tiled.result
-tiles_are c = end_at c.args.functions.now c.args.pieces.now c.slot_at.ensures c.check_tiles-tiled.ensures
+tiles_are : (c : After-check_tiles) → tiles_wrong (functions_only c.args.names.functions.now) (length c.args.shown.instructions.now / 8) 0 0 (pieces_of c.args.pieces.now) ≡ refusal_in c.check_tiles.result
+tiles_are c = end_at c.args.names.functions.now c.args.pieces.now c.slot_at.ensures c.check_tiles.ensures
 
-pub returns-in-Refused : goal.returns-in-Refused
-returns-in-Refused c = sym (root_wrong_lem (tables (goal.at.returns-in-Refused c).Start) (shownAt (goal.at.returns-in-Refused c).Start) c.args.root (sym c.check_root-first.ensures ∙ ap refusal_in c.in-Refused.is))
+pub returns-in_err-check_root : goal.returns-in_err-check_root
+returns-in_err-check_root c =
+    let p = err_from_is_err_and c.from_residual.result c.from_residual.ensures.1 in
+    let s = (goal.at.returns-in_err-check_root c).Start in
+    ap refusal_in (p.1 ∙ ap Err p.2) ∙ sym (root_wrong_lem (tables s) (shownAt s) c.args.root (sym c.check_root.ensures ∙ ap refusal_in c.in_err-check_root.was))
 
 pub overflow_cast-end : goal.overflow_cast-end
 overflow_cast-end c = omega (arith, image_few c.requires)
 
-pub check_tiles-tiled-requires : goal.check_tiles-tiled-requires
-check_tiles-tiled-requires c = tileable c.requires
+pub check_tiles-requires : goal.check_tiles-requires
+check_tiles-requires c = tileable c.requires
 
-pub returns-in-Refused-tiled : goal.returns-in-Refused-tiled
-returns-in-Refused-tiled c =
-    sym (tiles_wrong_lem (tables (goal.at.returns-in-Refused-tiled c).Start) (shownAt (goal.at.returns-in-Refused-tiled c).Start) c.args.root (root_first (goal.at.returns-in-Refused-tiled c).In_default) (tiles_are (goal.at.returns-in-Refused-tiled c).After-check_tiles-tiled ∙ ap refusal_in c.in-Refused-tiled.is))
+pub returns-in_err-check_tiles : goal.returns-in_err-check_tiles
+returns-in_err-check_tiles c =
+    let p = err_from_is_err_and c.from_residual-in_err-check_tiles.result c.from_residual-in_err-check_tiles.ensures.1 in
+    let at = goal.at.returns-in_err-check_tiles c in
+    ap refusal_in (p.1 ∙ ap Err p.2) ∙ sym (tiles_wrong_lem (tables at.Start) (shownAt at.Start) c.args.root (root_first at.In_ok-check_root) (tiles_are at.After-check_tiles ∙ ap refusal_in c.in_err-check_tiles.was))
 
 pub check_pieces-requires : goal.check_pieces-requires
-check_pieces-requires c = listed_so c.requires (tiles_are (goal.at.check_pieces-requires c).After-check_tiles-tiled ∙ ap refusal_in c.in_default-tiled.is)
+check_pieces-requires c = listed_so c.requires (tiles_are (goal.at.check_pieces-requires c).After-check_tiles ∙ ap refusal_in c.in_ok-check_tiles.was)
 
 pub returns : goal.returns
 returns c =
+    let at = goal.at.returns c in
     c.check_pieces.ensures
-    ∙ sym (pieces_judged (tables (goal.at.returns c).Start) (shownAt (goal.at.returns c).Start) c.args.root (root_first (goal.at.returns c).In_default) (tiles_are (goal.at.returns c).After-check_tiles-tiled ∙ ap refusal_in c.in_default-tiled.is))
+    ∙ sym (pieces_judged (tables at.Start) (shownAt at.Start) c.args.root (root_first at.In_ok-check_root) (tiles_are at.After-check_tiles ∙ ap refusal_in c.in_ok-check_tiles.was))

@@ -18,7 +18,4 @@ pub record Looked (o : Offered) (s : Shown) (k funcs lines : ℕ) : Type 0 where
 
 abbrev pub invariant-loop-k : goal.invariant-loop-k
 invariant-loop-k l =
-    Looked (link_offer l.code l.symbols l.functions l.relocations l.instructions l.func_info l.line_info) (shown l.image l.image_func_info l.image_line_info l.pieces) l.k l.funcs l.lines
-
-abbrev pub decreases-loop-k : goal.decreases-loop-k
-decreases-loop-k l = listed l.pieces - l.k
+    Looked (link_offer l.names.code.now l.names.symbols.now l.names.functions.now l.names.relocations.now l.program.instructions.now l.program.func_info.now l.program.line_info.now) (shown l.shown.instructions.now l.shown.func_info.now l.shown.line_info.now l.pieces) l.k l.funcs l.lines

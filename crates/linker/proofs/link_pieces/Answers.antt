@@ -1,43 +1,40 @@
 -- Too little room is told before everything; after a link, the starts give the list (proofs/Listing).
 use Prim.Native.Nat.{◌≤◌}
 use native.Mathlib.Omega.{arith}
-use lib.ListN.{length}
+use lib.ListN.{length, length-replicate}
+use mathlib.Core.Path.{◌≡◌, ap, ◌∙◌}
+use Rattle.std.proofs.lemmas.Result.{err_from_is_err_and}
 use Rattle.rules.specs.Entries.{list_room}
-use Rattle.rules.specs.Lent.{Buffers, buffers}
-use Rattle.rules.specs.Rows.{Offered, link_offer}
+use Rattle.rules.specs.Lent.{lent, lent_image}
 use Rattle.linker.proofs.Listing as listing
-use Rattle.linker.proofs.Whole.{answer_refused}
-use Rattle.linker.proofs.link_pieces.Goals.{After-wipe-2, Start}
+use Rattle.linker.proofs.link_pieces.Goals.{After-wipe, Else-pieces-rows}
 use Rattle.linker.proofs.link_pieces.Goals as goal
 
-abbrev tables : Start → Offered
-tables s =
-    let a = s.args in
-    link_offer a.code.now a.symbols.now a.functions.now a.relocations.now a.instructions.now a.func_info.now a.line_info.now
-
-abbrev outputs : Start → Buffers
-outputs s = buffers s.args.image.now s.args.image_func_info.now s.args.image_line_info.now
+wiped_length : (c : After-wipe) → length c.wipe.new.out ≡ length c.args.pieces.now
+wiped_length c = ap length c.wipe.ensures ∙ length-replicate (length c.args.pieces.now) 0
 
 -- the list has room
-long : (c : After-wipe-2) → list_room (tables (goal.at.After-wipe-2 c).Start) ≤ length c.args.pieces.now
-long c = omega (arith, c.if-pieces-rows.false)
+long : (c : Else-pieces-rows) → list_room (lent c.args.names c.args.program) ≤ length c.args.pieces.now
+long c = omega (arith, c.if-pieces-rows.false, wiped_length (goal.at.Else-pieces-rows c).After-wipe)
 
-pub returns-then-pieces-rows : goal.returns-then-pieces-rows
-returns-then-pieces-rows c =
-    listing.no_room (tables (goal.at.returns-then-pieces-rows c).Start) c.args.root (outputs (goal.at.returns-then-pieces-rows c).Start) (length c.args.pieces.now) c.wipe.ensures c.wipe-then-pieces-rows.ensures
-    c.wipe-then-pieces-rows-2.ensures c.wipe-then-pieces-rows-3.ensures _ c.refusal.ensures (omega (arith, c.if-pieces-rows.true))
+pub returns-then-pieces-rows-clause-outcomes : goal.returns-then-pieces-rows-clause-outcomes
+returns-then-pieces-rows-clause-outcomes c =
+    listing.no_room (lent c.args.names c.args.program) c.args.root (lent_image c.args.image.now) (length c.args.pieces.now) c.wipe_all.ensures.wiped c.wipe.ensures
+    _ c.refusal.ensures (omega (arith, c.if-pieces-rows.true, wiped_length (goal.at.returns-then-pieces-rows-clause-outcomes c).After-wipe))
 
-pub returns-in_default : goal.returns-in_default
-returns-in_default c =
-    listing.list_refused_lem (tables (goal.at.returns-in_default c).Start) c.args.root (outputs (goal.at.returns-in_default c).Start) (length c.args.pieces.now) (long (goal.at.returns-in_default c).After-wipe-2) c.link_starts-linked.ensures
-    c.wipe-2.ensures (answer_refused c.in_default.is)
+pub returns-in_err-linked-clause-outcomes : goal.returns-in_err-linked-clause-outcomes
+returns-in_err-linked-clause-outcomes c =
+    let p = err_from_is_err_and c.from_residual.result c.from_residual.ensures.1 in
+    rw (p.1, p.2)
+    (listing.list_refused_lem (lent c.args.names c.args.program) c.args.root (lent_image c.args.image.now) (length c.args.pieces.now) (long (goal.at.returns-in_err-linked-clause-outcomes c).Else-pieces-rows)
+    c.in_err-linked.ensures.outcomes c.wipe.ensures)
 
 pub put_list-count-requires : goal.put_list-count-requires
 put_list-count-requires c =
-    listing.lists (tables (goal.at.put_list-count-requires c).Start) c.args.root (outputs (goal.at.put_list-count-requires c).Start) (length c.args.pieces.now) (long (goal.at.put_list-count-requires c).After-wipe-2) c.link_starts-linked.ensures
-    _ c.in-Done.is c.wipe-2.ensures
+    listing.lists (lent c.args.names c.args.program) c.args.root (lent_image c.args.image.now) (length c.args.pieces.now) (long (goal.at.put_list-count-requires c).Else-pieces-rows)
+    c.in_ok-linked.ensures.outcomes c.wipe.ensures
 
-pub returns : goal.returns
-returns c =
-    listing.list_done (tables (goal.at.returns c).Start) c.args.root (outputs (goal.at.returns c).Start) (length c.args.pieces.now) (long (goal.at.returns c).After-wipe-2) c.link_starts-linked.ensures
-    _ c.in-Done.is c.wipe-2.ensures c.put_list-count.ensures
+pub returns-clause-outcomes : goal.returns-clause-outcomes
+returns-clause-outcomes c =
+    listing.list_done (lent c.args.names c.args.program) c.args.root (lent_image c.args.image.now) (length c.args.pieces.now) (long (goal.at.returns-clause-outcomes c).Else-pieces-rows)
+    c.in_ok-linked.ensures.outcomes c.wipe.ensures c.put_list-count.ensures

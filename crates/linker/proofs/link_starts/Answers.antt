@@ -1,28 +1,32 @@
 -- Wiped first, and again where the step refuses: what the outputs hold is the entry's definition, whatever the answer.
-use mathlib.Core.Path.{sym, ap, ◌∙◌}
-use Rattle.rules.specs.Answers.{reply_of, refusal_in}
-use Rattle.rules.specs.Lent.{Buffers, buffers}
-use Rattle.rules.specs.Rows.{Offered, link_offer}
+use mathlib.Core.Path.{◌≡◌, sym, ap, ◌∙◌}
+use mathlib.Core.Option.{none, some}
+use Rattle.std.proofs.lemmas.Result.{err_from_is_err_and}
+use Rattle.rules.specs.Answers.{refusal_in, refused_reply}
+use Rattle.rules.specs.Lent.{lent}
+use Rattle.rules.specs.Rows.{link_refusal}
 use Rattle.linker.proofs.Whole as whole
-use Rattle.linker.proofs.link_starts.Goals.{Start}
+use Rattle.linker.proofs.link_starts.Goals.{In_ok-check_link}
 use Rattle.linker.proofs.link_starts.Goals as goal
 
-abbrev tables : Start → Offered
-tables s =
-    let a = s.args in
-    link_offer a.code.now a.symbols.now a.functions.now a.relocations.now a.instructions.now a.func_info.now a.line_info.now
+-- the check refuses nothing
+passed : (c : In_ok-check_link) → link_refusal (lent c.args.names c.args.program) c.args.root ≡ none
+passed c = sym c.check_link.ensures ∙ ap refusal_in c.in_ok-check_link.was
 
-abbrev outputs : Start → Buffers
-outputs s = buffers s.args.image.now s.args.image_func_info.now s.args.image_line_info.now
-
-pub returns-in-Refused : goal.returns-in-Refused
-returns-in-Refused c = whole.entry_refused (tables (goal.at.returns-in-Refused c).Start) c.args.root (outputs (goal.at.returns-in-Refused c).Start) c.wipe.ensures c.wipe-2.ensures c.wipe-3.ensures _ (sym (ap refusal_in c.in-Refused.is) ∙ c.check_link-checked.ensures)
+pub returns-in_err-check_link-clause-outcomes : goal.returns-in_err-check_link-clause-outcomes
+returns-in_err-check_link-clause-outcomes c =
+    let p = err_from_is_err_and c.from_residual.result c.from_residual.ensures.1 in
+    rw (p.1, p.2)
+    (whole.entry_refused (lent c.args.names c.args.program) c.args.root c.wipe_all.ensures.wiped _ (sym (ap refusal_in c.in_err-check_link.was) ∙ c.check_link.ensures))
 
 pub link_checked-linked-requires : goal.link_checked-linked-requires
-link_checked-linked-requires c = whole.entry_starts (tables (goal.at.link_checked-linked-requires c).Start) c.args.root (outputs (goal.at.link_checked-linked-requires c).Start) c.wipe.ensures c.wipe-2.ensures c.wipe-3.ensures (sym c.check_link-checked.ensures ∙ ap refusal_in c.in_default.is)
+link_checked-linked-requires c = whole.entry_starts (lent c.args.names c.args.program) c.args.root c.wipe_all.ensures.wiped (passed (goal.at.link_checked-linked-requires c).In_ok-check_link)
 
-pub returns-in_default-answer : goal.returns-in_default-answer
-returns-in_default-answer c = whole.entry_wiped (tables (goal.at.returns-in_default-answer c).Start) c.args.root (outputs (goal.at.returns-in_default-answer c).Start) c.wipe.ensures c.wipe-2.ensures c.wipe-3.ensures (sym c.check_link-checked.ensures ∙ ap refusal_in c.in_default.is) c.link_checked-linked.result c.link_checked-linked.ensures (whole.answer_refused c.in_default-answer.is) c.wipe-in_default-answer.ensures c.wipe-in_default-answer-2.ensures c.wipe-in_default-answer-3.ensures
+pub returns-in-Ok-clause-outcomes : goal.returns-in-Ok-clause-outcomes
+returns-in-Ok-clause-outcomes c =
+    whole.entry_done (lent c.args.names c.args.program) c.args.root c.wipe_all.ensures.wiped (passed (goal.at.returns-in-Ok-clause-outcomes c).In_ok-check_link) c.in-Ok.ensures
 
-pub returns : goal.returns
-returns c = whole.entry_done (tables (goal.at.returns c).Start) c.args.root (outputs (goal.at.returns c).Start) c.wipe.ensures c.wipe-2.ensures c.wipe-3.ensures (sym c.check_link-checked.ensures ∙ ap refusal_in c.in_default.is) c.link_checked-linked.result c.link_checked-linked.ensures (ap (λ x. (reply_of x).number) c.in-Done.is)
+pub returns-in-Err-clause-outcomes : goal.returns-in-Err-clause-outcomes
+returns-in-Err-clause-outcomes c =
+    whole.entry_wiped (lent c.args.names c.args.program) c.args.root c.wipe_all.ensures.wiped (passed (goal.at.returns-in-Err-clause-outcomes c).In_ok-check_link) c.in-Err.ensures
+    c.wipe_all-in-Err.ensures.wiped

@@ -4,24 +4,29 @@ use Rattle.rules.specs.Rows.{function_slots, function_func_info, function_line_i
 use Rattle.rules.proofs.Searches.{summed_step, part_inside}
 use Rattle.merge.proofs.part_of.Goals as goal
 
-pub overflow_add-slots : goal.overflow_add-slots
-overflow_add-slots c =
-    omega (arith, part_inside (function_slots c.args.functions.now) c.args.row c.loop-k.k c.loop-k-test.true, c.loop-k.invariant.slots_are, c.requires.few_slots, c.function_slots-own.ensures)
+pub loop-k-init : goal.loop-k-init
+loop-k-init c =
+    let e = c.default-part.ensures in
+    record { slots_are = e.0; funcs_are = e.1.0; lines_are = e.1.1 }
 
-pub overflow_add-funcs : goal.overflow_add-funcs
-overflow_add-funcs c =
-    omega (arith, part_inside (function_func_info c.args.functions.now) c.args.row c.loop-k.k c.loop-k-test.true, c.loop-k.invariant.funcs_are, c.requires.few_funcs, c.function_func_info-funcs.ensures)
-
-pub overflow_add-lines : goal.overflow_add-lines
-overflow_add-lines c =
-    omega (arith, part_inside (function_line_info c.args.functions.now) c.args.row c.loop-k.k c.loop-k-test.true, c.loop-k.invariant.lines_are, c.requires.few_lines, c.function_line_info-lines.ensures)
+pub add-part-requires : goal.add-part-requires
+add-part-requires c =
+    let t = c.args.functions.now in
+    let l = c.loop-k in
+    let more = c.counts in
+    record {
+      few_slots = omega (arith, part_inside (function_slots t) c.args.row l.k c.loop-k-test.true, l.invariant.slots_are, c.requires.few_slots, more.ensures.slots_are);
+      few_funcs = omega (arith, part_inside (function_func_info t) c.args.row l.k c.loop-k-test.true, l.invariant.funcs_are, c.requires.few_funcs, more.ensures.funcs_are);
+      few_lines = omega (arith, part_inside (function_line_info t) c.args.row l.k c.loop-k-test.true, l.invariant.lines_are, c.requires.few_lines, more.ensures.lines_are);
+    }
 
 pub loop-k-preserved : goal.loop-k-preserved
 loop-k-preserved c =
+    let t = c.args.functions.now in
     let l = c.loop-k in
-    let t = c.args.functions.now in record {
-      most = omega (arith, c.loop-k-test.true);
-      slots_are = omega (arith, summed_step (function_slots t) l.k, l.invariant.slots_are, c.function_slots-own.ensures);
-      funcs_are = omega (arith, summed_step (function_func_info t) l.k, l.invariant.funcs_are, c.function_func_info-funcs.ensures);
-      lines_are = omega (arith, summed_step (function_line_info t) l.k, l.invariant.lines_are, c.function_line_info-lines.ensures);
-    }
+    let more = c.counts in
+    rw c.add-part.ensures (record {
+      slots_are = omega (arith, summed_step (function_slots t) l.k, l.invariant.slots_are, more.ensures.slots_are);
+      funcs_are = omega (arith, summed_step (function_func_info t) l.k, l.invariant.funcs_are, more.ensures.funcs_are);
+      lines_are = omega (arith, summed_step (function_line_info t) l.k, l.invariant.lines_are, more.ensures.lines_are);
+    })

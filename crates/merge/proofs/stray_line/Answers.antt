@@ -1,33 +1,27 @@
--- The invariant: no record before record k strays, so that the search from there gives what was asked.
-use mathlib.Core.Path.{◌∙◌}
-use Prim.Native.Nat.{ℕ}
+-- The first record that strays is the one that the definition names.
+use mathlib.Core.Path.{◌≡◌, sym, ap, ◌∙◌}
+use mathlib.Core.Bool.{true, false}
+use Prim.Native.Nat.{◌+◌}
 use native.Mathlib.Omega.{arith}
+use borrow.Author.Rules.{rules}
+use borrow.Author.Tests.{tests}
+use Rattle.std.proofs.lemmas.Iterator.{first_from_Range}
 use Rattle.rules.specs.Bytes.{little}
-use Rattle.rules.specs.Tables.{LineRecord}
+use Rattle.rules.specs.Lookups.{found_of}
 use Rattle.rules.specs.Rows.{line_info_row}
-use Rattle.merge.proofs.Strays.{stray_step}
-use Rattle.merge.proofs.stray_line.Goals.{At-loop-k}
+use Rattle.merge.specs.Merge.{stays}
+use Rattle.merge.proofs.Strays.{stray_found, stray_start}
 use Rattle.merge.proofs.stray_line.Goals as goal
 
-abbrev slots_of_lem : At-loop-k → ℕ
-slots_of_lem c = c.function_slots-own.result.0
-
-abbrev origin_of : At-loop-k → ℕ
-origin_of c = c.line_info_slot-origin.result
-
-abbrev count_of : At-loop-k → ℕ
-count_of c = c.function_line_info-count.result
-
-abbrev row_of_lem : At-loop-k → ℕ → LineRecord
-row_of_lem c = line_info_row little c.args.line_info.now
-
-abbrev first_of : At-loop-k → ℕ
-first_of c = c.args.first
-
-pub loop-k-preserved : goal.loop-k-preserved
-loop-k-preserved c =
-    record {
-      most = omega (arith, c.loop-k-test.true);
-      same = c.loop-k.invariant.same ∙ stray_step (slots_of_lem (goal.at.loop-k-preserved c).At-loop-k) (origin_of (goal.at.loop-k-preserved c).At-loop-k) (row_of_lem (goal.at.loop-k-preserved c).At-loop-k) (first_of (goal.at.loop-k-preserved c).At-loop-k) (count_of (goal.at.loop-k-preserved c).At-loop-k) c.loop-k.k c.loop-k-test.true
-          (omega (arith, c.line_info_slot-slot.ensures, c.if-slot-origin.false)) (omega (arith, c.line_info_slot-slot.ensures, c.if-slot-origin.false, c.if-after-slots.false));
-    }
+pub returns : goal.returns
+returns c =
+    let a = c.args in
+    let slots = c.function_slots-slots.result.0 in
+    let origin = c.line_info_slot-origin.result in
+    let count = c.function_line_info-count.result in
+    let row = line_info_row little a.line_info.now in
+    stray_found slots origin row a.first count c.find.result
+    (first_from_Range _ _ _ c.find.result (λ k. stays slots origin (row (a.first + k)) ≡ false) (λ k. stays slots origin (row (a.first + k)) ≡ true) c.find.ensures.ran
+    (λ x q k. search (rules, tests)) (λ x q k. search (rules, tests)))
+    ∙ ap found_of (sym (stray_start a.functions.now a.line_info.now a.row a.first count slots origin c.function_slots-slots.ensures c.requires.begins
+    c.function_line_info-count.ensures c.line_info_slot-origin.ensures (omega (arith, c.if-count-eq0.false))))

@@ -7,7 +7,7 @@ use Rattle.rules.specs.Object.{is_call, decide}
 use Rattle.rules.specs.Bytes.{little, slot_in}
 use Rattle.rules.specs.Tables.{by_relocation}
 use Rattle.rules.specs.Rows.{tables_of, function_slots, function_row, relocation_row}
-use Rattle.rules.specs.Lent.{offered_code}
+use Rattle.rules.specs.Lent.{lent_code}
 use Rattle.rules.specs.Lookups.{read_row}
 use Rattle.insn.specs.Wide.{wide_load_in}
 use Rattle.resolve.specs.Means.{named_of, Means, option_of}
@@ -18,7 +18,7 @@ use Rattle.resolve.proofs.resolve.Goals as goal
 at_is : (e : After-after-end) → e.after-at.result.0 ≡ e.args.first.0 + e.args.slot.0
 at_is e = e.after-at.ensures
 
-end_is : (e : After-after-end) → e.after-end.result.0 ≡ e.args.first.0 + function_slots e.args.functions.now e.args.row
+end_is : (e : After-after-end) → e.after-end.result.0 ≡ e.args.first.0 + function_slots e.args.names.functions.now e.args.row
 end_is e = e.after-end.ensures ∙ ap (λ (n : ℕ). e.args.first.0 + n) e.function_slots-slots.ensures
 
 pub after-at-requires : goal.after-at-requires
@@ -55,9 +55,9 @@ returns c =
     (c.insn_is_call.ensures ∙ ap (λ (k : ℕ). is_call (slot_in little a.instructions.now k)) (at_is (goal.at.returns c).After-after-end))
     ∙ ap (λ (b : Bool). decide (is_call (slot_in little a.instructions.now here)) b (named_of c.by_relocation-named.result))
     (c.is_wide_load.ensures ∙ ap (λ (k : ℕ). wide_load_in a.instructions.now k c.after-end.result.0) (at_is (goal.at.returns c).After-after-end) ∙ ap (wide_load_in a.instructions.now here) (end_is (goal.at.returns c).After-after-end))
-    ∙ ap (decide (is_call (slot_in little a.instructions.now here)) (wide_load_in a.instructions.now here (a.first.0 + function_slots a.functions.now a.row)))
+    ∙ ap (decide (is_call (slot_in little a.instructions.now here)) (wide_load_in a.instructions.now here (a.first.0 + function_slots a.names.functions.now a.row)))
     (c.by_relocation-named.ensures
-    ∙ ap (λ (k : ℕ). by_relocation (tables_of little (offered_code a.code.now a.symbols.now a.functions.now a.relocations.now a.instructions.now))
-    (read_row (relocation_row a.relocations.now) (option_of a.rel)) (function_row a.functions.now a.row) a.slot.0 (slot_in little a.instructions.now k)) (at_is (goal.at.returns c).After-after-end))
+    ∙ ap (λ (k : ℕ). by_relocation (tables_of little (lent_code a.names a.instructions.now))
+    (read_row (relocation_row a.names.relocations.now) (option_of a.rel)) (function_row a.names.functions.now a.row) a.slot.0 (slot_in little a.instructions.now k)) (at_is (goal.at.returns c).After-after-end))
     ∙ sym (meaning_is c.requires))
     c.decide.ensures

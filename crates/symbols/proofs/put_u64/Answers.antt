@@ -1,15 +1,12 @@
--- Two stores side by side are one splice of both.
-use mathlib.Core.Path.{ap, ◌∙◌}
-use mathlib.Core.List.{List}
-use Prim.Native.Nat.{ℕ, ◌+◌, ◌/◌, ◌%◌}
+-- The part that is written is the number's bytes.
+use mathlib.Core.Path.{refl, ◌∙◌}
 use native.Mathlib.Omega.{arith}
-use Rattle.rules.specs.Bytes.{little, bytes4, splice}
-use Rattle.symbols.proofs.Laws.{splice_on}
+use Rattle.symbols.specs.Symbols.{bytes8}
+use Rattle.wire.proofs.Stores.{put_mid_splice}
+use Rattle.symbols.proofs.Laws.{eight_bytes}
 use Rattle.symbols.proofs.put_u64.Goals as goal
 
 pub returns : goal.returns
 returns c =
     let a = c.args in
-    c.put_u32-2.ensures
-    ∙ ap (λ (l : List ℕ). splice l (a.at + 4) (bytes4 little (a.v / 0x1_0000_0000))) c.put_u32.ensures
-    ∙ splice_on a.out.now a.at (a.at + 4) (bytes4 little (a.v % 0x1_0000_0000)) (bytes4 little (a.v / 0x1_0000_0000)) (omega arith) (omega (arith, c.requires))
+    put_mid_splice a.out.now (bytes8 a.v) c.copy_from_slice.new.self a.at 8 (c.copy_from_slice.ensures.after ∙ c.to_le_bytes.ensures ∙ eight_bytes a.v (omega (arith, c.ranges.v))) refl

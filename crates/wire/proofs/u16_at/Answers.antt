@@ -1,8 +1,8 @@
--- Two bytes below 256 each, by their weights.
+-- The number of the two bytes is the one that stands there.
 use borrow.Author.Rules.{rules}
-use Rattle.rules.specs.Bytes.{u16_at}
+use native.Mathlib.Omega.{arith}
+use Rattle.wire.proofs.Bits.{read16}
 use Rattle.wire.proofs.u16_at.Goals as goal
 
 pub returns : goal.returns
-unfolding u16_at
-returns c = search rules
+returns c = (search (rules, read16 c.args.s.now c.args.at), omega arith)

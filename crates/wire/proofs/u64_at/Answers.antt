@@ -1,8 +1,7 @@
--- Two numbers below 2^32, by their weights.
+-- The number of the eight bytes is the one that stands there.
 use borrow.Author.Rules.{rules}
-use Rattle.rules.specs.Bytes.{u64_at}
+use Rattle.wire.proofs.Bits.{read64}
 use Rattle.wire.proofs.u64_at.Goals as goal
 
 pub returns : goal.returns
-unfolding u64_at
-returns c = search rules
+returns c = search (rules, read64 c.args.s.now c.args.at)

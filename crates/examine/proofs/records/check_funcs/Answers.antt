@@ -1,39 +1,20 @@
--- The invariant: nothing is wrong with the records before record j, so what is left to look at gives what was asked.
-use mathlib.Core.Path.{sym, ap, ◌∙◌}
-use mathlib.Core.Option.{Option, some}
-use Prim.Native.Nat.{ℕ}
-use native.Mathlib.Omega.{arith}
-use borrow.Author.Tests.{not-true, not-false}
-use Rattle.rules.specs.Answers.{Reply}
-use Rattle.examine.specs.Recorded.{func_wrong}
-use Rattle.examine.proofs.Firsts.{wrong_step, wrong_here}
-use Rattle.examine.proofs.Same.{func_missing, func_differs, func_same}
-use Rattle.examine.proofs.records.check_funcs.Goals.{Start}
+-- Records are the same where each field is.
+use mathlib.Core.Path.{◌≡◌, sym, ap, ◌∙◌}
+use mathlib.Core.Bool.{Bool}
+use Prim.Native.Nat.{ℕ, ◌+◌}
+use Rattle.std.proofs.Common.{rules, of_calls}
+use Rattle.rules.specs.declared.Table.TheVariants.{FuncInfo}
+use Rattle.rules.specs.Bytes.{little}
+use Rattle.rules.specs.Rows.{whole_rows, func_info_row}
+use Rattle.rules.specs.Examine.{same_function_record}
+use Rattle.examine.specs.Recorded.{func_of, record_wrong}
+use Rattle.examine.proofs.Same.{same_funcs}
 use Rattle.examine.proofs.records.check_funcs.Goals as goal
 
-abbrev wrong : Start → ℕ → Option Reply
-wrong s = let a = s.args in func_wrong a.func_info.now a.first a.shown.now a.at a.k a.start.0
-
-pub returns-then-to-n : goal.returns-then-to-n
-returns-then-to-n c =
+pub returns : goal.returns
+unfolding Rattle.examine.specs.Recorded.func_wrong
+returns c =
     let a = c.args in
-    let l = c.loop-j in
-    ap some c.finding.ensures
-    ∙ sym (l.invariant.same ∙ wrong_here (wrong (goal.at.returns-then-to-n c).Start) l.j a.count c.loop-j-test.true (func_missing a.func_info.now a.first a.shown.now a.at a.k a.start.0 l.j c.if-to-n.true))
-
-pub returns-then-not-same_func : goal.returns-then-not-same_func
-returns-then-not-same_func c =
-    let a = c.args in
-    let l = c.loop-j in
-    ap some c.finding-then-not-same_func.ensures
-    ∙ sym (l.invariant.same ∙ wrong_here (wrong (goal.at.returns-then-not-same_func c).Start) l.j a.count c.loop-j-test.true
-    (func_differs a.func_info.now a.first a.shown.now a.at a.k a.start.0 l.j c.same_func.ensures c.if-to-n.false (not-true _ c.if-not-same_func.true-raw)))
-
-pub loop-j-preserved : goal.loop-j-preserved
-loop-j-preserved c =
-    let a = c.args in
-    let l = c.loop-j in record {
-      most = omega (arith, c.loop-j-test.true);
-      same = l.invariant.same ∙ wrong_step (wrong (goal.at.loop-j-preserved c).Start) l.j a.count c.loop-j-test.true
-          (func_same a.func_info.now a.first a.shown.now a.at a.k a.start.0 l.j c.same_func.ensures c.if-to-n.false (not-false _ c.if-not-same_func.false-raw));
-    }
+    let p = a.piece in
+    let test : ℕ → Bool = λ j. same_function_record (func_info_row little a.shown.now (p.funcs + j)) (func_of p.k p.start.0 (func_info_row little a.func_info.now (p.part.funcs + j))) in
+    c.check_run.ensures test (λ j l t b k. search (rules, of_calls, same_funcs))

@@ -1,39 +1,21 @@
--- The invariant: nothing is wrong with the records before record j, so what is left to look at gives what was asked.
-use mathlib.Core.Path.{sym, ap, ◌∙◌}
-use mathlib.Core.Option.{Option, some}
-use Prim.Native.Nat.{ℕ}
-use native.Mathlib.Omega.{arith}
-use borrow.Author.Tests.{not-true, not-false}
-use Rattle.rules.specs.Answers.{Reply}
-use Rattle.examine.specs.Recorded.{line_wrong}
-use Rattle.examine.proofs.Firsts.{wrong_step, wrong_here}
-use Rattle.examine.proofs.Same.{line_missing, line_differs, line_same}
-use Rattle.examine.proofs.records.check_lines.Goals.{Start}
+-- Records are the same where each field is; the code holds the first one's slot as `origin`.
+use mathlib.Core.Path.{ap, ◌∙◌}
+use mathlib.Core.Bool.{Bool}
+use Prim.Native.Nat.{ℕ, ◌+◌}
+use Rattle.std.proofs.Common.{rules, of_calls}
+use Rattle.rules.specs.declared.Table.TheVariants.{LineInfo}
+use Rattle.rules.specs.Bytes.{little}
+use Rattle.rules.specs.Rows.{whole_rows, line_info_row}
+use Rattle.rules.specs.Examine.{same_line_record, first_wrong}
+use Rattle.examine.specs.Recorded.{line_of, record_wrong}
+use Rattle.examine.proofs.Same.{same_lines}
 use Rattle.examine.proofs.records.check_lines.Goals as goal
 
-abbrev wrong : Start → ℕ → Option Reply
-wrong s = let a = s.args in line_wrong a.line_info.now a.first a.shown.now a.at a.k a.start.0
-
-pub returns-then-to-n : goal.returns-then-to-n
-returns-then-to-n c =
+pub returns : goal.returns
+unfolding Rattle.examine.specs.Recorded.line_wrong
+returns c =
     let a = c.args in
-    let l = c.loop-j in
-    ap some c.finding.ensures
-    ∙ sym (l.invariant.same ∙ wrong_here (wrong (goal.at.returns-then-to-n c).Start) l.j a.count c.loop-j-test.true (line_missing a.line_info.now a.first a.shown.now a.at a.k a.start.0 l.j c.if-to-n.true))
-
-pub returns-then-not-same_line : goal.returns-then-not-same_line
-returns-then-not-same_line c =
-    let a = c.args in
-    let l = c.loop-j in
-    ap some c.finding-then-not-same_line.ensures
-    ∙ sym (l.invariant.same ∙ wrong_here (wrong (goal.at.returns-then-not-same_line c).Start) l.j a.count c.loop-j-test.true
-    (line_differs a.line_info.now a.first a.shown.now a.at a.k a.start.0 l.j c.line_info_slot-origin.ensures c.same_line.ensures c.if-to-n.false (not-true _ c.if-not-same_line.true-raw)))
-
-pub loop-j-preserved : goal.loop-j-preserved
-loop-j-preserved c =
-    let a = c.args in
-    let l = c.loop-j in record {
-      most = omega (arith, c.loop-j-test.true);
-      same = l.invariant.same ∙ wrong_step (wrong (goal.at.loop-j-preserved c).Start) l.j a.count c.loop-j-test.true
-          (line_same a.line_info.now a.first a.shown.now a.at a.k a.start.0 l.j c.line_info_slot-origin.ensures c.same_line.ensures c.if-to-n.false (not-false _ c.if-not-same_line.false-raw));
-    }
+    let p = a.piece in
+    let test : ℕ → ℕ → Bool = λ origin j. same_line_record (line_info_row little a.shown.now (p.lines + j)) (line_of p.k origin p.start.0 (line_info_row little a.line_info.now (p.part.lines + j))) in
+    c.check_run.ensures (test c.line_info_slot-origin.result) (λ j l t b k. search (rules, of_calls, same_lines))
+    ∙ ap (λ origin. first_wrong (record_wrong 43 p.k (whole_rows LineInfo a.shown.now) p.lines (test origin)) 0 a.count) c.line_info_slot-origin.ensures

@@ -1,17 +1,16 @@
--- The invariant: the pieces above `low` start before the place, those from `high` on do not. Where they meet is how many do.
-use mathlib.Core.Path.{sym, ◌∙◌}
-use native.Mathlib.Omega.{arith}
-use Rattle.pieces.proofs.Targets.{from_below, from_above, met}
+-- The law of partition_point over the rows: the pieces before its answer start before the place, those from it on do not.
+use mathlib.Core.Path.{◌≡◌}
+use Rattle.std.proofs.Common.{rules, of_calls}
+use Rattle.std.proofs.lemmas.Fn.{always_returns_same}
+use Rattle.pieces.specs.Tiling.{start_is_before}
+use Rattle.pieces.proofs.Targets.{rows_of, parted, point_is}
 use Rattle.pieces.proofs.tiles.starts_before.Goals as goal
-
-pub loop-low-preserved-then-is_before : goal.loop-low-preserved-then-is_before
-loop-low-preserved-then-is_before c =
-    from_below _ c.requires _ c.loop-low.low c.loop-low.high c.loop-low.invariant _ (omega arith) (sym c.is_before.ensures ∙ c.if-is_before.true)
-
-pub loop-low-preserved : goal.loop-low-preserved
-loop-low-preserved c =
-    from_above _ c.requires _ c.loop-low.low c.loop-low.high c.loop-low.invariant _ (omega arith) (omega arith) (sym c.is_before.ensures ∙ c.if-is_before.false)
 
 pub returns : goal.returns
 returns c =
-    (met _ c.requires _ c.loop-low.low c.loop-low.high c.loop-low.invariant (omega arith), omega arith)
+    let t = c.args.pieces.now in
+    let place = c.args.place in
+    let r = c.partition_point.result in
+    let same : c.as_chunks.result.0.now ≡ rows_of t = c.as_chunks.ensures.front in
+    let point = c.partition_point.ensures.partitioned (λ row. start_is_before row place 0) (always_returns_same _ _ _ (λ a r f k. search (rules, of_calls))) (rw same (parted t c.requires place)) in
+    point_is t c.requires place r (rw same at c.partition_point.ensures.bound) (rw same at point)
