@@ -10,7 +10,8 @@ use Prim.Native.Nat.{ℕ, ◌+◌, ◌≤◌, ◌<◌}
 use native.Mathlib.Omega.{arith}
 use native.Mathlib.Decide.{dec_lt}
 use Rattle.rules.specs.declared.Table.TheVariants.{Relocations}
-use Rattle.std.specs.Prelude.{Some, None}
+use Rattle.std.specs.Prelude as prelude
+use Rattle.std.specs.Prelude.{Some, None, MatchOption, unwrap_or}
 use Rattle.rules.specs.Rows.{whole_rows, first_from, relocation_section, relocation_offset}
 use Rattle.rules.specs.Tables.{Before}
 use Rattle.rules.specs.Lookups.{Sound, found_of, or_end, relocation_with, relocations_before}
@@ -32,24 +33,22 @@ module _ (t : List ℕ) (sound : Sound Relocations t) (home place : ℕ) where
       go none f = omega arith
       go (some k) f = omega (arith, f k refl)
 
-  pub moves_on : (cursor : ℕ) → cursor ≤ relocations_before t home place → cursor < whole_rows Relocations t
-      → relocation_is_before t home place cursor ≡ true → cursor + 1 ≤ relocations_before t home place
-  moves_on cursor l h e = go (dec_lt cursor (relocations_before t home place))
+  -- the first row from the cursor on that is not before the place, or the end
+  pub moved : (from : ℕ) (r : prelude.Option ℕ) → from ≤ relocations_before t home place
+      → MatchOption r ((k : ℕ) → from ≤ k → k < whole_rows Relocations t → relocation_is_before t home place k ≡ true)
+      (λ i. (from ≤ i) × (i < whole_rows Relocations t) × (relocation_is_before t home place i ≡ false) × ((k : ℕ) → from ≤ k → k < i → relocation_is_before t home place k ≡ true))
+      → unwrap_or r (whole_rows Relocations t) ≡ relocations_before t home place
+  moved from None l all = go (dec_lt (relocations_before t home place) (whole_rows Relocations t))
     where
-      go : Dec (cursor < relocations_before t home place) → cursor + 1 ≤ relocations_before t home place
-      go (yes m) = omega arith
-      go (no n) = clash e (from_bound t sound home place cursor (omega arith) h)
-
-  pub stops : (cursor : ℕ) → cursor ≤ relocations_before t home place → relocation_is_before t home place cursor ≡ false
-      → cursor ≡ relocations_before t home place
-  stops cursor l e = go (dec_lt cursor (relocations_before t home place))
+      go : Dec (relocations_before t home place < whole_rows Relocations t) → whole_rows Relocations t ≡ relocations_before t home place
+      go (yes m) = clash (all (relocations_before t home place) l m) (from_bound t sound home place (relocations_before t home place) (omega arith) m)
+      go (no n) = omega (arith, within)
+  moved from (Some i) l h = go (dec_lt (relocations_before t home place) i) (dec_lt i (relocations_before t home place))
     where
-      go : Dec (cursor < relocations_before t home place) → cursor ≡ relocations_before t home place
-      go (yes m) = clash (before_bound t sound home place cursor m) e
-      go (no n) = omega arith
-
-  pub stops_last : (cursor : ℕ) → cursor ≤ relocations_before t home place → whole_rows Relocations t ≤ cursor → cursor ≡ relocations_before t home place
-  stops_last cursor l h = omega (arith, within)
+      go : Dec (relocations_before t home place < i) → Dec (i < relocations_before t home place) → i ≡ relocations_before t home place
+      go (yes m) d = clash (h.3 (relocations_before t home place) l m) (from_bound t sound home place (relocations_before t home place) (omega arith) (omega (arith, h.1)))
+      go (no n) (yes m) = clash (before_bound t sound home place i m) h.2
+      go (no n) (no m) = omega arith
 
   -- where it stands
   module _ (cursor : ℕ) (is : cursor ≡ relocations_before t home place) where

@@ -1,27 +1,22 @@
 -- The cursor only moves on: a later place has no fewer rows before it.
-use mathlib.Core.Path.{sym, ◌∙◌}
+use mathlib.Core.Path.{◌≡◌, ◌∙◌}
+use mathlib.Core.Bool.{true, false}
 use native.Mathlib.Omega.{arith}
-use Rattle.examine.proofs.Cursors.{before_rises, moves_on, stops, stops_last}
-use Rattle.examine.proofs.cursor.Cursor.moved_to.Goals.{then-loop-row-test+else-is_relocation_before, else-loop-row-test}
+use borrow.Author.Rules.{rules}
+use borrow.Author.Tests.{tests}
+use Rattle.std.proofs.lemmas.Iterator.{first_from_Range}
+use Rattle.rows.specs.Matches.{relocation_is_before}
+use Rattle.examine.proofs.Cursors.{before_rises, moved}
 use Rattle.examine.proofs.cursor.Cursor.moved_to.Goals as goal
-
-pub loop-row-init : goal.loop-row-init
-loop-row-init c =
-    let s = c.args.self in
-    omega (arith, s.stands, before_rises s.relocations.now c.requires.0 s.home s.offset.0 c.args.offset.0 c.requires.1)
-
-pub loop-row-preserved : goal.loop-row-preserved
-loop-row-preserved c =
-    let s = c.args.self in
-    let l = c.loop-row in
-    moves_on s.relocations.now c.requires.0 s.home c.args.offset.0 l.row l.invariant c.loop-row-test.true (sym c.is_relocation_before.ensures ∙ c.if-is_relocation_before.true)
 
 pub invariant_of-result : goal.invariant_of-result
 invariant_of-result c =
     let s = c.args.self in
-    let l = c.loop-row in record {
-      stands = elim c.loop-row-test.branch [
-        | then-loop-row-test+else-is_relocation_before w ↦ stops s.relocations.now c.requires.0 s.home c.args.offset.0 l.row l.invariant (sym w.is_relocation_before.ensures ∙ w.if-is_relocation_before.false)
-        | else-loop-row-test w ↦ stops_last s.relocations.now c.requires.0 s.home c.args.offset.0 l.row l.invariant w.loop-row-test.false
-      ];
+    let t = s.relocations.now in
+    let place = c.args.offset.0 in record {
+      sound = s.sound;
+      stands = c.unwrap_or-row.ensures
+          ∙ moved t s.sound s.home place s.row c.find.result (omega (arith, s.stands, before_rises t s.sound s.home s.offset.0 place c.requires))
+          (first_from_Range _ _ _ c.find.result (λ k. relocation_is_before t s.home place k ≡ false) (λ k. relocation_is_before t s.home place k ≡ true) c.find.ensures.ran
+          (λ x q k. search (rules, tests)) (λ x q k. search (rules, tests)));
     }
