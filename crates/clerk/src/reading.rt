@@ -119,7 +119,8 @@ fn most_of(bounded: bool, table: Table) -> u32
     }
 }
 
-// A table of at most so many bytes.
+// A table of at most so many bytes. `file` and `instructions` stay two slices here: of a struct that holds both to be written, each contract
+// would have to say too that it is given back with the same two.
 fn read_table(
     reader: &mut impl io::Read,
     most: u32,

@@ -60,7 +60,7 @@ fn held(file: &[u8], i: usize) -> u32
     }
 }
 
-// Where table i + 1 begins.
+// Where table i + 1 begins. By its place, since the end of the last is asked for too.
 #[tactic(auto, unfolding(crate::specs::Files::start_of))]
 pub fn start_of(file: &[u8], i: usize) -> usize
     requires { (i ≤ 8) × (32 ≤ length file.now) }

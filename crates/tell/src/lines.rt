@@ -107,7 +107,8 @@ impl Words {
         }
     }
 
-    // In decimal, with spaces before it up to `width`.
+    // In decimal, with spaces before it up to `width`. By hand, as the bytes are: as far as its contract says, std's `write!` may fail, and
+    // `spoken_line` cannot.
     #[tactic(auto, using(crate::proofs::Added::none, crate::proofs::Spelled::digits_on, crate::proofs::Spelled::digits_end))]
     fn push_number(&mut self, n: u32, width: u32)
         ensures { self.new ≡ added (decimal width n) self.old }

@@ -1,5 +1,6 @@
 // The tool's words: a text, and which of its lines say what. A text's lines keep places for numbers (lines.rt).
-// specs/Text.antt has the same numbers for definitions.
+// specs/Text.antt has the same numbers for definitions. They are numbers and no enum: `answer`, `of_file`, `of_part`, and clerk's `complain`,
+// `failed`, `nameless` and `read` take any line, and an enum would ask more of who calls them.
 // A step that is done, and what it counts.
 pub const APPLIED: usize = 0;
 

@@ -11,7 +11,7 @@ use crate::text::{
 use answers::{number, places};
 use rules::{Places, Refusal};
 
-// An answer's number and its places.
+// An answer's number and its places, as plain numbers: `answer` tells any four.
 #[derive(Clone, Copy)]
 pub struct Told {
     pub number: u32,
@@ -87,7 +87,7 @@ fn names_run(number: u32) -> bool
     matches!(number, 33 | 34 | 44)
 }
 
-// Lines of the text, and three numbers to each.
+// Lines of the text, and three numbers to each: the two lists that `spoken_line` takes, which may be any.
 #[derive(Clone, Copy)]
 pub struct Sentence {
     pub lines: [usize; 5],
