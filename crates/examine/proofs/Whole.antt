@@ -79,9 +79,6 @@ module _ {o : Offered} {s : Shown} {k funcs lines : ℕ} (p : Pieced o s k funcs
   checked : LinkChecked o
   checked = p.list.sizes.checked
 
-  pub in_list : piece_size * k + piece_size ≤ length s.pieces
-  in_list = omega (arith, p.is_piece)
-
   pub few_pieces : k < most_image_slots
   few_pieces = omega (arith, p.is_piece, (fits p.list).pieces.few)
 
@@ -95,7 +92,7 @@ module _ {o : Offered} {s : Shown} {k funcs lines : ℕ} (p : Pieced o s k funcs
     pub row_sums : Sums o.functions row
     row_sums = sums o row parts
 
-    pub row_low : row < most_rows Functions
+    row_low : row < most_rows Functions
     row_low = omega (arith, row_in, few_rows Functions o.functions checked.tables.functions)
 
     module _ {start : ℕ} (at : start ≡ piece_start s.pieces k) where

@@ -1,12 +1,11 @@
 -- The first size that is wrong, in the order of the definition.
 use mathlib.Core.Path.{◌≡◌, sym, ap, ◌∙◌}
-use mathlib.Core.Option.{Option, none}
 use Rattle.std.specs.Prelude.{Err}
 use Rattle.std.proofs.lemmas.Result.{err_from_is_err_and}
 use Rattle.rules.specs.declared.Table.TheVariants.{Instructions, FuncInfo, LineInfo}
-use Rattle.rules.specs.Answers.{Reply, refusal_in}
+use Rattle.rules.specs.Answers.{refusal_in}
 use Rattle.rules.specs.Rows.{row_size, most_image_slots, most_image_functions, most_image_lines, table_number}
-use Rattle.rules.specs.Examine.{Shown, shown, size_wrong, sizes_wrong}
+use Rattle.rules.specs.Examine.{Shown, shown, size_wrong}
 use Rattle.examine.proofs.Sizing.{image_bad, funcs_bad, lines_bad, list_said, numbered}
 use Rattle.examine.proofs.sizes.check_sizes.Goals.{After-check_size, After-check_size-2, After-check_size-3, In_ok-check_size, In_ok-check_size-2, In_ok-check_size-3, Start}
 use Rattle.examine.proofs.sizes.check_sizes.Goals as goal
