@@ -28,35 +28,7 @@ pub fn finding(cause: Cause, first: u32, second: u32, third: u32) -> Refusal
 pub fn number_of(cause: Cause) -> u32
     ensures { result ≡ number_of cause }
 {
-    match cause {
-        Cause::TooManyRows => 1,
-        Cause::BrokenRow => 2,
-        Cause::UnknownSymbol => 3,
-        Cause::InvalidRelocationOffset => 4,
-        Cause::SectionNotFound => 5,
-        Cause::NotWideLoad => 6,
-        Cause::ValueOutside => 7,
-        Cause::UnknownForm => 8,
-        Cause::NoCode => 9,
-        Cause::UnknownFunction => 10,
-        Cause::NoRoom => 11,
-        Cause::LineOutside => 12,
-        Cause::NoRoot => 13,
-        Cause::BrokenInfo => 14,
-        Cause::NoListRoom => 32,
-        Cause::ShownTooLong => 33,
-        Cause::ShownPartial => 34,
-        Cause::RootNotFirst => 35,
-        Cause::NoSuchFunction => 36,
-        Cause::NotTiled => 37,
-        Cause::EndsElsewhere => 38,
-        Cause::SlotChanged => 39,
-        Cause::NotReference => 40,
-        Cause::WrongTarget => 41,
-        Cause::FuncInfoDiffers => 42,
-        Cause::LineInfoDiffers => 43,
-        Cause::RecordsOver => 44,
-    }
+    cause as u32
 }
 
 pub fn number(answer: Result<Places, Refusal>) -> u32

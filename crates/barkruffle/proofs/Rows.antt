@@ -11,7 +11,7 @@ use borrow.Author.Tests.{lt-ltb, ltb-true}
 use lib.Dec.{eqb, ltb}
 use lib.ListN.{length, take}
 use lib.Seq.{take_all, length-take-le}
-use Rattle.rules.specs.declared.Found.{Found}
+use Rattle.std.specs.Prelude as prelude
 use Rattle.rules.specs.declared.Table.TheVariants.{Code, Symbols}
 use Rattle.rules.specs.Bytes.{little}
 use Rattle.rules.specs.Answers.{Reply, reply}
@@ -82,7 +82,7 @@ module _ (code functions relocations instructions func_info line_info : List ℕ
       ∙ laid_links ys zs
 
 -- ---- a row found
-pub row_told : (ys : List Symbol) (x r : ℕ) (f : Found) → length ys < no_row → f ≡ found_of (symbol_with (bytes_of ys) x) → r ≡ number_found f
+pub row_told : (ys : List Symbol) (x r : ℕ) (f : prelude.Option ℕ) → length ys < no_row → f ≡ found_of (symbol_with (bytes_of ys) x) → r ≡ number_found f
     → RowTold r (symbol_with (bytes_of ys) x)
 unfolding symbol_with
 row_told ys x r f l e n = go (symbol_with (bytes_of ys) x) few (n ∙ ap number_found e)

@@ -7,7 +7,9 @@ use Prim.Native.Nat.{ℕ, ◌*◌}
 use borrow.Author.Tests.{eq-eqb, ne_eqb}
 use lib.Dec.{eqb}
 use lib.ListN.{length, take, drop}
-use Rattle.rules.specs.declared.Answer.{Answer}
+use Rattle.std.specs.Prelude.{Result}
+use Rattle.rules.specs.declared.Places.{Places}
+use Rattle.rules.specs.declared.Refusal.{Refusal}
 use Rattle.rules.specs.declared.Table.{Table}
 use Rattle.rules.specs.Bytes.{little}
 use Rattle.rules.specs.Answers.{Reply, reply, reply_of, places_in}
@@ -16,7 +18,7 @@ use Rattle.rules.specs.Readers.{Info, read_records, has_record, record_part, rec
 use Rattle.info.specs.Promises.{ReadAs}
 use Rattle.rules.specs.Lent.{Buffers}
 use Rattle.linker.specs.declared.Listed.{Listed}
-use Rattle.linker.specs.Linker.{Outcomes, ListedOutcomes}
+use Rattle.linker.specs.Linker.{Outcomes, list_answer, ListedOutcomes}
 use Rattle.answers.specs.Told.{Told}
 use Rattle.barkruffle.specs.Promises.{LinkTold, ListTold, MapTold, ReadTold, Placed, Stands}
 
@@ -31,19 +33,19 @@ told_as {before = before} e t = record {
   places = t.places ∙ ap (λ (z : Reply). places_in (length before) z.places) e;
 }
 
-pub link_told : {before after : List ℕ} {r : ℕ} {b : Buffers} {a : Answer} {link : LinkResult}
+pub link_told : {before after : List ℕ} {r : ℕ} {b : Buffers} {a : Result Places Refusal} {link : LinkResult}
     → Outcomes b a link → Told before after r (reply_of a) → LinkTold before after b r link
 link_told h t = record { told = told_as h.reply t; image = h.image; funcs = h.funcs; lines = h.lines }
 
-pub list_told : {before after list : List ℕ} {r : ℕ} {b : Buffers} {a : Listed} {entry : PiecesResult}
-    → ListedOutcomes b list a entry → Told before after r (reply_of a.answer) → ListTold before after b list r entry
+pub list_told : {before after list : List ℕ} {r : ℕ} {b : Buffers} {a : Result Listed Refusal} {entry : PiecesResult}
+    → ListedOutcomes b list a entry → Told before after r (reply_of (list_answer a)) → ListTold before after b list r entry
 list_told h t = record { link = link_told h.outcomes t; pieces = h.pieces }
 
 pub map_told : {before after table6 : List ℕ} {r : ℕ} {x : Reply} {map : MapResult}
     → x ≡ map.reply → table6 ≡ map.instructions → Told before after r x → MapTold before after table6 r map
 map_told e i t = record { told = told_as e t; instructions = i }
 
-pub read_told : {before after room output : List ℕ} {r : ℕ} {a : Answer} {table : Table} {info : Info}
+pub read_told : {before after room output : List ℕ} {r : ℕ} {a : Result Places Refusal} {table : Table} {info : Info}
     → ReadAs table info room output a → Told before after r (reply_of a) → ReadTold before after output r (read_records little table info (length room))
 read_told h t = record { told = told_as h.reply t; out = h.out }
 
@@ -62,7 +64,7 @@ numbered : (b : Bool) (n : ℕ) → eqb (cond b (reply 0 n 0 0) (reply 14 0 0 0)
 numbered true n = refl
 numbered false n = refl
 
-same_test : (a : Answer) (table : Table) (info : Info) (k : ℕ)
+same_test : (a : Result Places Refusal) (table : Table) (info : Info) (k : ℕ)
     → reply_of a ≡ record_reply little table info k → eqb (reply_of a).number 0 ≡ has_record little table info k
 unfolding record_reply
 same_test a table info k e = ap (λ (z : Reply). eqb z.number 0) e ∙ numbered (has_record little table info k) info.count
@@ -80,7 +82,7 @@ part_is table info k start len p =
     ∙ ap (λ (n : ℕ). take (cond (has_record little table info k) info.size 0) (drop n info.bytes)) p.starts
     ∙ parted (has_record little table info k) info.size (info.size * k) info.bytes
 
-pub stands : (a : Answer) (table : Table) (info : Info) (k start len : ℕ)
+pub stands : (a : Result Places Refusal) (table : Table) (info : Info) (k start len : ℕ)
     → reply_of a ≡ record_reply little table info k → Placed (eqb (reply_of a).number 0) info.size k start len → Stands table info k start len
 stands a table info k start len e p =
     let same = same_test a table info k e in

@@ -1,37 +1,33 @@
 // The entries that C calls (barkruffle_c exports them): each hands over to the crate that decides, and tells its answer as document 01's numbers.
 #![tactic(auto)]
 
-ghost use Rattle.std.specs.Prelude.{◌≡◌, ◌*◌, ◌≤◌, eqb, length, take};
-ghost use Rattle.rules.specs.declared.Table.TheVariants.{Symbols, FuncInfo, LineInfo};
+ghost use Rattle.std.specs.Prelude.{◌≡◌, eqb, length};
 ghost use Rattle.rules.specs.Bytes.{little};
 ghost use Rattle.rules.specs.Answers.{reply_of};
-ghost use Rattle.rules.specs.Rows.{row_size};
 ghost use Rattle.rules.specs.Lookups.{symbol_with};
-ghost use Rattle.rules.specs.Lent.{lent, lent_maps, lent_shown, outputs, lent_outputs, lent_by};
+ghost use Rattle.rules.specs.Lent.{lent, lent_maps, lent_shown, lent_image, lent_by};
 ghost use Rattle.rules.specs.Entries.{link_entry, link_pieces_entry, map_entry};
 ghost use Rattle.rules.specs.Examine.{examine_entry};
 ghost use Rattle.rules.specs.Readers.{read_records, record_reply};
 ghost use Rattle.answers.specs.Told.{Told};
-ghost use Rattle.info.specs.Promises.{given};
+ghost use Rattle.info.specs.Promises.{table_in, info_in};
+ghost use Rattle.merge.specs.Merge.{SameOutputs};
 ghost use Rattle.symbols.specs.Symbols.{bytes_of};
 ghost use Rattle.barkruffle.specs.Promises.{LinkTold, ListTold, MapTold, ReadTold, Placed, Stands};
 ghost use Rattle.barkruffle.specs.LentRows.{lent_with, number_found, RowTold};
 
 use answers::{number, tell};
 use examine::examine;
-use info::{func_info, func_info_record_number, line_info, line_info_record_number};
+use info::Records;
 use linker::{link, link_pieces};
 use maps::relocate_maps;
 use rules::limits::SYMBOL_SIZE;
-use rules::{Answer, Found};
+use rules::{Image, Names, Places, Program, Refusal};
 use symbols::{ROWS_ROOM, Symbol, find_rows, lay_rows};
 
 // Rewrites table 6 in place, only once nothing is refused.
 pub fn barkruffle_relocate_maps(
-    code: &[u8],
-    symbols: &[u8],
-    functions: &[u8],
-    relocations: &[u8],
+    names: Names,
     maps: &[u8],
     instructions: &mut [u8],
     places: &mut [u8],
@@ -41,114 +37,63 @@ pub fn barkruffle_relocate_maps(
         places.new
         instructions.new
         result
-        (map_entry little (lent_maps code.now symbols.now functions.now relocations.now maps.now instructions.old)) }
+        (map_entry little (lent_maps names.entry maps.now instructions.old)) }
 {
-    let a = relocate_maps(code, symbols, functions, relocations, maps, instructions);
-    tell(a, places)
+    tell(relocate_maps(names, maps, instructions), places)
 }
 
 // Links the function at the row root of table 3.
 pub fn barkruffle_link(
-    code: &[u8],
-    symbols: &[u8],
-    functions: &[u8],
-    relocations: &[u8],
-    instructions: &[u8],
-    func_info: &[u8],
-    line_info: &[u8],
+    names: Names,
+    program: Program,
     root: u32,
-    image: &mut [u8],
-    image_func_info: &mut [u8],
-    image_line_info: &mut [u8],
+    image: &mut Image,
     places: &mut [u8],
 ) -> u32
-    ensures { LinkTold
+    ensures told { LinkTold
         places.old
         places.new
-        (outputs image.new image_func_info.new image_line_info.new)
+        (lent_image image.new)
         result
-        (link_entry
-        little
-        (lent code.now symbols.now functions.now relocations.now instructions.now func_info.now line_info.now)
-        root
-        (lent_by (lent_outputs image.old image_func_info.old image_line_info.old))) }
+        (link_entry little (lent names.entry program.entry) root (lent_by (lent_image image.old))) }
+    ensures same { SameOutputs image.old image.new }
 {
-    let a = link(
-        code,
-        symbols,
-        functions,
-        relocations,
-        instructions,
-        func_info,
-        line_info,
-        image,
-        image_func_info,
-        image_line_info,
-        root,
-    );
-    tell(a, places)
+    tell(link(names, program, image, root), places)
 }
 
 // The link with its list of pieces, in order of placing: rows of a function's row and its start.
 pub fn barkruffle_link_pieces(
-    code: &[u8],
-    symbols: &[u8],
-    functions: &[u8],
-    relocations: &[u8],
-    instructions: &[u8],
-    func_info: &[u8],
-    line_info: &[u8],
+    names: Names,
+    program: Program,
     root: u32,
-    image: &mut [u8],
-    image_func_info: &mut [u8],
-    image_line_info: &mut [u8],
+    image: &mut Image,
     pieces: &mut [u8],
     places: &mut [u8],
 ) -> u32
-    ensures { ListTold
+    ensures told { ListTold
         places.old
         places.new
-        (outputs image.new image_func_info.new image_line_info.new)
+        (lent_image image.new)
         pieces.new
         result
         (link_pieces_entry
         little
-        (lent code.now symbols.now functions.now relocations.now instructions.now func_info.now line_info.now)
+        (lent names.entry program.entry)
         root
-        (lent_by (lent_outputs image.old image_func_info.old image_line_info.old))
+        (lent_by (lent_image image.old))
         (length pieces.old)) }
+    ensures same { SameOutputs image.old image.new }
 {
-    let listed = link_pieces(
-        code,
-        symbols,
-        functions,
-        relocations,
-        instructions,
-        func_info,
-        line_info,
-        image,
-        image_func_info,
-        image_line_info,
-        pieces,
-        root,
-    );
-    let a = listed.answer;
-    tell(a, places)
+    let listed = link_pieces(names, program, image, pieces, root);
+    tell(listed.map(|listed| listed.places), places)
 }
 
 // Examines an image from elsewhere, with its records and its list of pieces.
 pub fn barkruffle_examine(
-    code: &[u8],
-    symbols: &[u8],
-    functions: &[u8],
-    relocations: &[u8],
-    instructions: &[u8],
-    func_info: &[u8],
-    line_info: &[u8],
+    names: Names,
+    program: Program,
     root: u32,
-    image: &[u8],
-    image_func_info: &[u8],
-    image_line_info: &[u8],
+    shown: Program,
     pieces: &[u8],
     places: &mut [u8],
 ) -> u32
@@ -156,72 +101,9 @@ pub fn barkruffle_examine(
         places.old
         places.new
         result
-        (examine_entry
-        little
-        (lent code.now symbols.now functions.now relocations.now instructions.now func_info.now line_info.now)
-        root
-        (lent_shown image.now image_func_info.now image_line_info.now pieces.now)) }
+        (examine_entry little (lent names.entry program.entry) root (lent_shown shown.entry pieces.now)) }
 {
-    let a = examine(
-        code,
-        symbols,
-        functions,
-        relocations,
-        instructions,
-        func_info,
-        line_info,
-        root,
-        image,
-        image_func_info,
-        image_line_info,
-        pieces,
-    );
-    tell(a, places)
-}
-
-// The link over the first rows of a byte table, so many.
-fn link_laid(
-    table: &[u8],
-    count: usize,
-    code: &[u8],
-    functions: &[u8],
-    relocations: &[u8],
-    instructions: &[u8],
-    func_info: &[u8],
-    line_info: &[u8],
-    root: u32,
-    image: &mut [u8],
-    image_func_info: &mut [u8],
-    image_line_info: &mut [u8],
-    places: &mut [u8],
-) -> u32
-    requires { row_size Symbols * count ≤ length table.now }
-    ensures { LinkTold
-        places.old
-        places.new
-        (outputs image.new image_func_info.new image_line_info.new)
-        result
-        (link_entry
-        little
-        (lent_with code.now (take (row_size Symbols * count) table.now) functions.now relocations.now instructions.now func_info.now line_info.now)
-        root
-        (lent_by (lent_outputs image.old image_func_info.old image_line_info.old))) }
-{
-    let end = SYMBOL_SIZE * count;
-    barkruffle_link(
-        code,
-        &table[..end],
-        functions,
-        relocations,
-        instructions,
-        func_info,
-        line_info,
-        root,
-        image,
-        image_func_info,
-        image_line_info,
-        places,
-    )
+    tell(examine(names, program, root, shown, pieces), places)
 }
 
 // The link with table 2 lent as rows. They are laid into a table of its own, and linked from there.
@@ -230,54 +112,44 @@ pub fn barkruffle_link_rows(
     symbols: &[Symbol],
     functions: &[u8],
     relocations: &[u8],
-    instructions: &[u8],
-    func_info: &[u8],
-    line_info: &[u8],
+    program: Program,
     root: u32,
-    image: &mut [u8],
-    image_func_info: &mut [u8],
-    image_line_info: &mut [u8],
+    image: &mut Image,
     places: &mut [u8],
 ) -> u32
-    ensures { LinkTold
+    ensures told { LinkTold
         places.old
         places.new
-        (outputs image.new image_func_info.new image_line_info.new)
+        (lent_image image.new)
         result
         (link_entry
         little
-        (lent_with code.now (bytes_of symbols.now) functions.now relocations.now instructions.now func_info.now line_info.now)
+        (lent_with code.now (bytes_of symbols.now) functions.now relocations.now program.entry)
         root
-        (lent_by (lent_outputs image.old image_func_info.old image_line_info.old))) }
+        (lent_by (lent_image image.old))) }
+    ensures same { SameOutputs image.old image.new }
 {
     let mut table = [0u8; ROWS_ROOM];
     let count = lay_rows(symbols, &mut table);
-    link_laid(
-        &table,
-        count,
+    let end = SYMBOL_SIZE * count;
+    let names = Names {
         code,
+        symbols: &table[..end],
         functions,
         relocations,
-        instructions,
-        func_info,
-        line_info,
-        root,
-        image,
-        image_func_info,
-        image_line_info,
-        places,
-    )
+    };
+    barkruffle_link(names, program, root, image, places)
 }
 
 // No row of lent rows: a slice has fewer.
 const NO_ROW: u64 = 0xFFFF_FFFF_FFFF_FFFF;
 
-fn row_number(found: Found) -> u64
+fn row_number(found: Option<usize>) -> u64
     ensures { result ≡ number_found found }
 {
     match found {
-        Found::At(row) => row as u64,
-        Found::Nothing => NO_ROW,
+        Some(row) => row as u64,
+        None => NO_ROW,
     }
 }
 
@@ -288,53 +160,27 @@ pub fn barkruffle_find_symbol(symbols: &[Symbol], index: u32) -> u64
     row_number(find_rows(symbols, index))
 }
 
-// Reads struct bpf_func_info records into rows of table 7.
-pub fn barkruffle_func_info(
-    size: u32,
-    count: u32,
-    bytes: &[u8],
-    out: &mut [u8],
-    places: &mut [u8],
-) -> u32
+// Reads struct bpf_func_info or bpf_line_info records into rows of table 7 or 8.
+pub fn barkruffle_read(records: Records, out: &mut [u8], places: &mut [u8]) -> u32
     ensures { ReadTold
         places.old
         places.new
         out.new
         result
-        (read_records little FuncInfo (given size count bytes.now) (length out.old)) }
+        (read_records little (table_in records.entry) (info_in records.entry) (length out.old)) }
 {
-    let a = func_info(size, count, bytes, out);
-    tell(a, places)
-}
-
-// Reads struct bpf_line_info records into rows of table 8.
-pub fn barkruffle_line_info(
-    size: u32,
-    count: u32,
-    bytes: &[u8],
-    out: &mut [u8],
-    places: &mut [u8],
-) -> u32
-    ensures { ReadTold
-        places.old
-        places.new
-        out.new
-        result
-        (read_records little LineInfo (given size count bytes.now) (length out.old)) }
-{
-    let a = line_info(size, count, bytes, out);
-    tell(a, places)
+    tell(records.read(out), places)
 }
 
 // Where a record stands in the caller's data: a slice is no result for C.
 #[repr(C)]
-#[derive(Clone, Copy)]
+#[derive(Clone, Copy, PartialEq, Eq, Default)]
 pub struct Part {
     pub at: u64,
     pub len: u64,
 }
 
-fn part_of(a: Answer, size: u32, k: u32) -> Part
+fn part_of(a: Result<Places, Refusal>, size: u32, k: u32) -> Part
     ensures { Placed (eqb (reply_of a).number 0) size k result.at result.len }
 {
     if number(a) != 0 {
@@ -346,42 +192,16 @@ fn part_of(a: Answer, size: u32, k: u32) -> Part
     }
 }
 
-// Record k of struct bpf_func_info, its tail included; (0, 0) where it is refused.
-pub fn barkruffle_func_info_record(size: u32, count: u32, bytes: &[u8], k: u32) -> Part
-    ensures { Stands FuncInfo (given size count bytes.now) k result.at result.len }
+// Record k, its tail included; (0, 0) where it is refused.
+pub fn barkruffle_record(records: Records, k: u32) -> Part
+    ensures { Stands (table_in records.entry) (info_in records.entry) k result.at result.len }
 {
-    part_of(func_info_record_number(size, count, bytes, k), size, k)
+    part_of(records.record_number(k), records.size, k)
 }
 
-// The same of struct bpf_line_info.
-pub fn barkruffle_line_info_record(size: u32, count: u32, bytes: &[u8], k: u32) -> Part
-    ensures { Stands LineInfo (given size count bytes.now) k result.at result.len }
+// The number of what `barkruffle_record` gives.
+pub fn barkruffle_record_number(records: Records, k: u32, places: &mut [u8]) -> u32
+    ensures { Told places.old places.new result (record_reply little (table_in records.entry) (info_in records.entry) k) }
 {
-    part_of(line_info_record_number(size, count, bytes, k), size, k)
-}
-
-// The number of what `barkruffle_func_info_record` gives.
-pub fn barkruffle_func_info_record_number(
-    size: u32,
-    count: u32,
-    bytes: &[u8],
-    k: u32,
-    places: &mut [u8],
-) -> u32
-    ensures { Told places.old places.new result (record_reply little FuncInfo (given size count bytes.now) k) }
-{
-    tell(func_info_record_number(size, count, bytes, k), places)
-}
-
-// The number of what `barkruffle_line_info_record` gives.
-pub fn barkruffle_line_info_record_number(
-    size: u32,
-    count: u32,
-    bytes: &[u8],
-    k: u32,
-    places: &mut [u8],
-) -> u32
-    ensures { Told places.old places.new result (record_reply little LineInfo (given size count bytes.now) k) }
-{
-    tell(line_info_record_number(size, count, bytes, k), places)
+    tell(records.record_number(k), places)
 }

@@ -4,18 +4,21 @@
 ghost use Rattle.std.specs.Prelude.{length};
 ghost use Rattle.rules.specs.declared.Table.TheVariants.{FuncInfo, LineInfo};
 ghost use Rattle.rules.specs.Bytes.{little};
+ghost use Rattle.rules.specs.Rows.{link_offer, map_step_offer};
 ghost use Rattle.rules.specs.Lookups.{symbol_with};
-ghost use Rattle.rules.specs.Lent.{lent, lent_maps, lent_shown, outputs, lent_outputs, lent_by};
+ghost use Rattle.rules.specs.Lent.{buffers, lent_by};
 ghost use Rattle.rules.specs.Entries.{link_entry, link_pieces_entry, map_entry};
-ghost use Rattle.rules.specs.Examine.{examine_entry};
+ghost use Rattle.rules.specs.Examine.{shown, examine_entry};
 ghost use Rattle.rules.specs.Readers.{read_records, record_reply};
 ghost use Rattle.answers.specs.Told.{Told};
 ghost use Rattle.info.specs.Promises.{given};
 ghost use Rattle.symbols.specs.Symbols.{bytes_of};
 ghost use Rattle.barkruffle.specs.Promises.{LinkTold, ListTold, MapTold, ReadTold, Stands};
-ghost use Rattle.barkruffle.specs.LentRows.{lent_with, RowTold};
+ghost use Rattle.barkruffle.specs.LentRows.{RowTold};
 
 use barkruffle::Part;
+use info::{RecordKind, Records};
+use rules::{Image, Names, Program};
 use symbols::Symbol;
 
 // Rewrites table 6 in place, only once nothing is refused.
@@ -34,17 +37,15 @@ pub extern "C" fn barkruffle_relocate_maps(
         places.new
         instructions.new
         result
-        (map_entry little (lent_maps code.now symbols.now functions.now relocations.now maps.now instructions.old)) }
+        (map_entry little (map_step_offer code.now symbols.now functions.now relocations.now maps.now instructions.old)) }
 {
-    barkruffle::barkruffle_relocate_maps(
+    let names = Names {
         code,
         symbols,
         functions,
         relocations,
-        maps,
-        instructions,
-        places,
-    )
+    };
+    barkruffle::barkruffle_relocate_maps(names, maps, instructions, places)
 }
 
 // Links the function at the row root of table 3.
@@ -66,28 +67,31 @@ pub extern "C" fn barkruffle_link(
     ensures { LinkTold
         places.old
         places.new
-        (outputs image.new image_func_info.new image_line_info.new)
+        (buffers image.new image_func_info.new image_line_info.new)
         result
         (link_entry
         little
-        (lent code.now symbols.now functions.now relocations.now instructions.now func_info.now line_info.now)
+        (link_offer code.now symbols.now functions.now relocations.now instructions.now func_info.now line_info.now)
         root
-        (lent_by (lent_outputs image.old image_func_info.old image_line_info.old))) }
+        (lent_by (buffers image.old image_func_info.old image_line_info.old))) }
 {
-    barkruffle::barkruffle_link(
+    let names = Names {
         code,
         symbols,
         functions,
         relocations,
+    };
+    let program = Program {
         instructions,
         func_info,
         line_info,
-        root,
-        image,
-        image_func_info,
-        image_line_info,
-        places,
-    )
+    };
+    let mut out = Image {
+        slots: image,
+        func_info: image_func_info,
+        line_info: image_line_info,
+    };
+    barkruffle::barkruffle_link(names, program, root, &mut out, places)
 }
 
 // The link with its list of pieces, in order of placing: rows of a function's row and its start.
@@ -110,31 +114,33 @@ pub extern "C" fn barkruffle_link_pieces(
     ensures { ListTold
         places.old
         places.new
-        (outputs image.new image_func_info.new image_line_info.new)
+        (buffers image.new image_func_info.new image_line_info.new)
         pieces.new
         result
         (link_pieces_entry
         little
-        (lent code.now symbols.now functions.now relocations.now instructions.now func_info.now line_info.now)
+        (link_offer code.now symbols.now functions.now relocations.now instructions.now func_info.now line_info.now)
         root
-        (lent_by (lent_outputs image.old image_func_info.old image_line_info.old))
+        (lent_by (buffers image.old image_func_info.old image_line_info.old))
         (length pieces.old)) }
 {
-    barkruffle::barkruffle_link_pieces(
+    let names = Names {
         code,
         symbols,
         functions,
         relocations,
+    };
+    let program = Program {
         instructions,
         func_info,
         line_info,
-        root,
-        image,
-        image_func_info,
-        image_line_info,
-        pieces,
-        places,
-    )
+    };
+    let mut out = Image {
+        slots: image,
+        func_info: image_func_info,
+        line_info: image_line_info,
+    };
+    barkruffle::barkruffle_link_pieces(names, program, root, &mut out, pieces, places)
 }
 
 // Examines an image from elsewhere, with its records and its list of pieces.
@@ -160,25 +166,27 @@ pub extern "C" fn barkruffle_examine(
         result
         (examine_entry
         little
-        (lent code.now symbols.now functions.now relocations.now instructions.now func_info.now line_info.now)
+        (link_offer code.now symbols.now functions.now relocations.now instructions.now func_info.now line_info.now)
         root
-        (lent_shown image.now image_func_info.now image_line_info.now pieces.now)) }
+        (shown image.now image_func_info.now image_line_info.now pieces.now)) }
 {
-    barkruffle::barkruffle_examine(
+    let names = Names {
         code,
         symbols,
         functions,
         relocations,
+    };
+    let program = Program {
         instructions,
         func_info,
         line_info,
-        root,
-        image,
-        image_func_info,
-        image_line_info,
-        pieces,
-        places,
-    )
+    };
+    let shown = Program {
+        instructions: image,
+        func_info: image_func_info,
+        line_info: image_line_info,
+    };
+    barkruffle::barkruffle_examine(names, program, root, shown, pieces, places)
 }
 
 // The link with table 2 lent as rows. They are laid into a table of its own, and linked from there.
@@ -200,26 +208,32 @@ pub extern "C" fn barkruffle_link_rows(
     ensures { LinkTold
         places.old
         places.new
-        (outputs image.new image_func_info.new image_line_info.new)
+        (buffers image.new image_func_info.new image_line_info.new)
         result
         (link_entry
         little
-        (lent_with code.now (bytes_of symbols.now) functions.now relocations.now instructions.now func_info.now line_info.now)
+        (link_offer code.now (bytes_of symbols.now) functions.now relocations.now instructions.now func_info.now line_info.now)
         root
-        (lent_by (lent_outputs image.old image_func_info.old image_line_info.old))) }
+        (lent_by (buffers image.old image_func_info.old image_line_info.old))) }
 {
+    let program = Program {
+        instructions,
+        func_info,
+        line_info,
+    };
+    let mut out = Image {
+        slots: image,
+        func_info: image_func_info,
+        line_info: image_line_info,
+    };
     barkruffle::barkruffle_link_rows(
         code,
         symbols,
         functions,
         relocations,
-        instructions,
-        func_info,
-        line_info,
+        program,
         root,
-        image,
-        image_func_info,
-        image_line_info,
+        &mut out,
         places,
     )
 }
@@ -248,7 +262,13 @@ pub extern "C" fn barkruffle_func_info(
         result
         (read_records little FuncInfo (given size count bytes.now) (length out.old)) }
 {
-    barkruffle::barkruffle_func_info(size, count, bytes, out, places)
+    let functions = Records {
+        kind: RecordKind::Functions,
+        size,
+        count,
+        bytes,
+    };
+    barkruffle::barkruffle_read(functions, out, places)
 }
 
 // Reads struct bpf_line_info records into rows of table 8.
@@ -267,7 +287,13 @@ pub extern "C" fn barkruffle_line_info(
         result
         (read_records little LineInfo (given size count bytes.now) (length out.old)) }
 {
-    barkruffle::barkruffle_line_info(size, count, bytes, out, places)
+    let lines = Records {
+        kind: RecordKind::Lines,
+        size,
+        count,
+        bytes,
+    };
+    barkruffle::barkruffle_read(lines, out, places)
 }
 
 // Record k of struct bpf_func_info, its tail included; (0, 0) where it is refused.
@@ -275,7 +301,13 @@ pub extern "C" fn barkruffle_line_info(
 pub extern "C" fn barkruffle_func_info_record(size: u32, count: u32, bytes: &[u8], k: u32) -> Part
     ensures { Stands FuncInfo (given size count bytes.now) k result.at result.len }
 {
-    barkruffle::barkruffle_func_info_record(size, count, bytes, k)
+    let functions = Records {
+        kind: RecordKind::Functions,
+        size,
+        count,
+        bytes,
+    };
+    barkruffle::barkruffle_record(functions, k)
 }
 
 // The same of struct bpf_line_info.
@@ -283,7 +315,13 @@ pub extern "C" fn barkruffle_func_info_record(size: u32, count: u32, bytes: &[u8
 pub extern "C" fn barkruffle_line_info_record(size: u32, count: u32, bytes: &[u8], k: u32) -> Part
     ensures { Stands LineInfo (given size count bytes.now) k result.at result.len }
 {
-    barkruffle::barkruffle_line_info_record(size, count, bytes, k)
+    let lines = Records {
+        kind: RecordKind::Lines,
+        size,
+        count,
+        bytes,
+    };
+    barkruffle::barkruffle_record(lines, k)
 }
 
 // The number of what `barkruffle_func_info_record` gives.
@@ -297,7 +335,13 @@ pub extern "C" fn barkruffle_func_info_record_number(
 ) -> u32
     ensures { Told places.old places.new result (record_reply little FuncInfo (given size count bytes.now) k) }
 {
-    barkruffle::barkruffle_func_info_record_number(size, count, bytes, k, places)
+    let functions = Records {
+        kind: RecordKind::Functions,
+        size,
+        count,
+        bytes,
+    };
+    barkruffle::barkruffle_record_number(functions, k, places)
 }
 
 // The number of what `barkruffle_line_info_record` gives.
@@ -311,5 +355,11 @@ pub extern "C" fn barkruffle_line_info_record_number(
 ) -> u32
     ensures { Told places.old places.new result (record_reply little LineInfo (given size count bytes.now) k) }
 {
-    barkruffle::barkruffle_line_info_record_number(size, count, bytes, k, places)
+    let lines = Records {
+        kind: RecordKind::Lines,
+        size,
+        count,
+        bytes,
+    };
+    barkruffle::barkruffle_record_number(lines, k, places)
 }

@@ -6,21 +6,15 @@ use Prim.Native.Nat.{ℕ, zero, suc, ◌+◌, ◌-◌, ◌*◌, ◌/◌, ◌≤�
 use native.Mathlib.Omega.{arith}
 use native.Mathlib.Nat.{add-zero, zero-add, mul-suc, mul-zero}
 use native.Mathlib.Numerals.{add-one}
-use lib.ListN.{length, take, drop, replicate, replicate-append-replicate, length-replicate, length-append, length-take, length-drop}
-use lib.Seq.{take_at, drop-append-add, drop_at}
+use lib.ListN.{length, take, drop, replicate, length-append, length-take, length-drop}
+use lib.Seq.{take_at, drop-append-add}
+use Rattle.std.proofs.lemmas.List.{drop-replicate}
 use Rattle.rules.specs.declared.Table.{Table}
 use Rattle.rules.specs.declared.Table.TheVariants.{Code, Symbols, Functions, Relocations, Maps, Instructions, FuncInfo, LineInfo}
 use Rattle.rules.specs.Bytes.{Order, u32_at, bytes4, splice, padded}
 use Rattle.rules.specs.Rows.{row_size}
 use Rattle.rules.specs.Readers.{Info, row_of_record, rows_of_records}
 use Rattle.rules.proofs.Writing.{length_bytes4}
-
-drop_zeros : (k n : ℕ) → k ≤ n → drop {A = ℕ} k (replicate n 0) ≡ replicate (n - k) 0
-drop_zeros k n h =
-    let e : n ≡ k + (n - k) = omega arith in
-    ap (λ (m : ℕ). drop {A = ℕ} k (replicate m 0)) e
-    ∙ ap (drop {A = ℕ} k) (sym (replicate-append-replicate k (n - k) 0))
-    ∙ drop_at (replicate k 0) (replicate (n - k) 0) k (length-replicate k 0)
 
 -- all zero
 pub padded_none : (n : ℕ) → replicate n 0 ≡ padded n []
@@ -34,7 +28,7 @@ padded_more n xs vs at e h =
     let z : n - length xs - length vs ≡ n - length (xs ++ vs) = omega (arith, length-append xs vs) in
     ap (λ (l : List ℕ). l ++ vs ++ drop (at + length vs) (xs ++ replicate (n - length xs) 0)) (take_at xs (replicate (n - length xs) 0) at e)
     ∙ ap (λ (m : ℕ). xs ++ vs ++ drop (m + length vs) (xs ++ replicate (n - length xs) 0)) (sym e)
-    ∙ ap (λ (l : List ℕ). xs ++ vs ++ l) (drop-append-add xs (replicate (n - length xs) 0) (length vs) ∙ drop_zeros (length vs) (n - length xs) (omega arith))
+    ∙ ap (λ (l : List ℕ). xs ++ vs ++ l) (drop-append-add xs (replicate (n - length xs) 0) (length vs) ∙ drop-replicate (length vs) (n - length xs) 0)
     ∙ ap (λ (m : ℕ). xs ++ vs ++ replicate m 0) z
 
 pub row_size_least : (table : Table) → 4 ≤ row_size table

@@ -1,3 +1,4 @@
 pub mod Ends
 pub mod Words
 pub mod WideLoads
+pub mod KindTable

@@ -50,16 +50,13 @@ impl Site {
     {
         let here = after(first, slot);
         let end = after(first, slots);
-        let imm = immediate(instructions, here);
-        let call = insn_is_call(instructions, here);
-        let wide = is_wide_load(instructions, here, end);
         Site {
             row,
             slot,
             here,
-            imm,
-            call,
-            wide,
+            imm: immediate(instructions, here),
+            call: insn_is_call(instructions, here),
+            wide: is_wide_load(instructions, here, end),
         }
     }
 
@@ -89,15 +86,21 @@ fn by_data(
     let here = site.here;
     let fd = map_fd(maps, m);
     if map_has_data(maps, m) != HAS_DATA {
-        let value = None;
-        return Ok(Some(Change { here, fd, value }));
+        return Ok(Some(Change {
+            here,
+            fd,
+            value: None,
+        }));
     }
     let sum = value(site.imm, address);
     let Ok(next) = i32::try_from(sum) else {
         return site.refused(Cause::ValueOutside);
     };
-    let value = Some(next);
-    Ok(Some(Change { here, fd, value }))
+    Ok(Some(Change {
+        here,
+        fd,
+        value: Some(next),
+    }))
 }
 
 fn by_map(
@@ -131,13 +134,7 @@ fn by_row(
     ensures { Says site (row_verdict names.entry.code.now names.entry.symbols.now maps.now s symbol site) result }
 {
     let home = symbol_section(names.symbols, s);
-    if home == NONE {
-        return Ok(None);
-    }
-    if site.call {
-        return Ok(None);
-    }
-    if is_code(names.code, home) {
+    if home == NONE || site.call || is_code(names.code, home) {
         return Ok(None);
     }
     if symbol_kind(names.symbols, s) == TEXT {

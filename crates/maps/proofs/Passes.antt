@@ -1,13 +1,10 @@
 -- The first pass, row by row and function by function: what is left to judge from here gives what was asked for.
 -- Assumes nothing.
 use mathlib.Core.Path.{◌≡◌, refl, sym, ap, ◌∙◌}
-use mathlib.Core.Bool.{Bool, true, false}
 use mathlib.Core.Option.{Option, none, some}
-use mathlib.Core.List.{List, []}
-use Prim.Native.Nat.{ℕ, ◌+◌, ◌*◌, ◌≤◌, ◌<◌}
+use mathlib.Core.List.{[]}
+use Prim.Native.Nat.{ℕ, ◌+◌, ◌-◌, ◌*◌, ◌≤◌, ◌<◌}
 use native.Mathlib.Omega.{arith}
-use borrow.Author.Tests.{eqb-true}
-use lib.Dec.{ltb}
 use Rattle.rules.specs.declared.Refusal as told
 use Rattle.rules.specs.declared.Table.TheVariants.{Functions, Relocations}
 use Rattle.rules.specs.Link.{Refusal}
@@ -15,16 +12,16 @@ use Rattle.rules.specs.Bytes.{little}
 use Rattle.rules.specs.Answers.{Reply, reply, refused_reply}
 use Rattle.rules.specs.Tables.{Tables}
 use Rattle.rules.specs.Maps.{Task, task_slot, slot_for, tasks_of, all_tasks, or_else, refusal_by, first_refusal, place}
-use Rattle.rules.specs.Rows.{most_rows, most_function_slots, Offered, whole_rows, summed, function_section, function_slots, relocation_section, relocation_offset, relocation_row}
+use Rattle.rules.specs.Rows.{most_rows, most_function_slots, Offered, whole_rows, summed, function_section, function_slots, relocation_section, relocation_row}
 use Rattle.rules.specs.Lookups.{MapChecked}
 use Rattle.rules.proofs.Searches.{summed_step, summed_bound, part_inside}
-use Rattle.rules.proofs.Passed.{and_left, few_rows, good_function}
+use Rattle.rules.proofs.Passed.{few_rows, good_function}
 use Rattle.rules.proofs.Reading.{row_is, base_is}
 use Rattle.std.specs.Prelude.{Ok, Err, Some, None}
 use Rattle.judge.specs.Verdicts.{Verdict, verdict_of}
 use Rattle.judge.specs.Judged.{tables, slots_of, task_of, slot_of, RowAsked, Asked, Judges}
-use Rattle.maps.specs.Passes.{verdict_refusal, replied, is_within, end_of, first_row, row_refusal, step_refusal}
-use Rattle.maps.proofs.Tasks.{refusal_joined, tasks_left, none_left, from_first, within_next, scan_end, rows_left, all_rows, rows_next, rows_end}
+use Rattle.maps.specs.Passes.{verdict_refusal, replied, RelocationsOf, first_row, past_row, row_refusal, step_refusal}
+use Rattle.maps.proofs.Tasks.{refusal_joined, tasks_left, none_left, in_section, from_first, within_next, rows_left, all_rows, rows_next, rows_end}
 
 -- ---- so many functions of so many slots
 pub slots_low : {o : Offered} → MapChecked o → (row : ℕ) → row < whole_rows Functions o.functions
@@ -65,70 +62,69 @@ first_stands none y r e = let z : ◌≡◌ {A = ℕ} 0 1 = cc in absurd (omega 
 first_stands (some w) y r e = e
 
 -- ---- the scan of a function's relocations
-abbrev pub Within : Offered → ℕ → ℕ → Type 0
-Within o row k = is_within o.relocations (function_section o.functions row) (end_of o.functions row) k ≡ true
+-- a step of the range from k to `past`: the row n, and the range that is left
+abbrev pub Steps : ℕ → ℕ → ℕ → ℕ → ℕ → Type 0
+Steps k past n k' past' = (past' ≡ past) × ((0 < past - k) × (n ≡ k) × (k' ≡ k + 1))
 
-abbrev pub Without : Offered → ℕ → ℕ → Type 0
-Without o row k = is_within o.relocations (function_section o.functions row) (end_of o.functions row) k ≡ false
-
--- the test with numbers that were read
-pub test_is : (t : List ℕ) (k : ℕ) {home home' end end' : ℕ} {r b : Bool} → home ≡ home' → end ≡ end' → r ≡ is_within t home end k → r ≡ b → is_within t home' end' k ≡ b
-test_is t k {home} {home'} {end} h e f g = sym (f ∙ ap (λ n. is_within t n end k) h ∙ ap (λ n. is_within t home' n k) e) ∙ g
-
-pub same_section : (o : Offered) (row k : ℕ) → Within o row k → relocation_section o.relocations k ≡ function_section o.functions row
-same_section o row k e = eqb-true _ _ (and_left _ (ltb (relocation_offset o.relocations k) (end_of o.functions row)) e)
-
-pub record JudgeScan (o : Offered) (row k : ℕ) : Type 0 where
+-- from row k of table 4 on, to the row `past`
+pub record JudgeScan (o : Offered) (row k past : ℕ) : Type 0 where
   pub low : first_row o.functions o.relocations row ≤ k
-  pub high : k ≤ whole_rows Relocations o.relocations
+  pub end_is : past ≡ past_row o.functions o.relocations row
+  pub end_inside : past ≤ whole_rows Relocations o.relocations
   pub left : first_refusal (tables o) (slots_of o) (tasks_of (tables o) row) ≡ first_refusal (tables o) (slots_of o) (tasks_left o row k)
 
 module _ {o : Offered} {row first : ℕ} (asked : RowAsked o row first) where
-  pub asked_at : (k : ℕ) → k < whole_rows Relocations o.relocations → Asked o row first k
-  asked_at k h = record { of_row = asked; k_inside = h }
+  pub judge_start : {k past : ℕ} → RelocationsOf o.functions o.relocations row k past → JudgeScan o row k past
+  judge_start {k} {past} of = record {
+    low = omega (arith, of.start_is);
+    end_is = of.end_is;
+    end_inside = of.end_inside;
+    left = (from_first o row asked.row_inside asked.checked.tables.relocations (omega (arith, of.start_is, of.start_inside))).refusals (slots_of o)
+        ∙ ap (λ n. first_refusal (tables o) (slots_of o) (tasks_left o row n)) (sym of.start_is);
+  }
 
-  pub judge_start : (k : ℕ) → k ≡ first_row o.functions o.relocations row → k ≤ whole_rows Relocations o.relocations → JudgeScan o row k
-  judge_start k e h = rw e (record {
-    low = omega arith;
-    high = rw e at h;
-    left = (from_first o row asked.row_inside asked.checked.tables.relocations (rw e at h)).refusals (slots_of o);
-  })
-
-  module _ {k : ℕ} (scan : JudgeScan o row k) where
+  module _ {k past : ℕ} (scan : JudgeScan o row k past) where
     no_refusal : first_refusal (tables o) (slots_of o) [] ≡ none
     unfolding first_refusal
     no_refusal = refl
 
-    pub judge_past : k < whole_rows Relocations o.relocations → Without o row k → none ≡ row_refusal o row
+    pub judge_end : past - k ≡ 0 → none ≡ row_refusal o row
     unfolding row_refusal
-    judge_past h past =
-        sym (ap replied (scan.left ∙ (none_left o row asked.row_inside asked.checked.tables.relocations k scan.low h past).refusals (slots_of o) ∙ no_refusal))
+    judge_end h =
+        sym (ap replied (scan.left ∙ (none_left o row asked.row_inside asked.checked.tables.relocations k (omega (arith, scan.end_is, h))).refusals (slots_of o) ∙ no_refusal))
 
-    pub judge_end : whole_rows Relocations o.relocations ≤ k → none ≡ row_refusal o row
-    unfolding row_refusal
-    judge_end h = sym (ap replied (scan.left ∙ ap (first_refusal (tables o) (slots_of o)) (scan_end o row k h) ∙ no_refusal))
+    module _ (n k' past' : ℕ) (steps : Steps k past n k' past') where
+      pub asked_at : Asked o row first n
+      asked_at = record { of_row = asked; k_inside = omega (arith, steps.1.0, steps.1.1, scan.end_inside) }
 
-    module _ (h : k < whole_rows Relocations o.relocations) (within : Within o row k) {v : Verdict} (j : Judges o row first k v) where
-      rest : Option Refusal
-      rest = first_refusal (tables o) (slots_of o) (tasks_left o row (k + 1))
+      in_row : relocation_section o.relocations n ≡ function_section o.functions row
+      in_row = in_section o row asked.row_inside asked.checked.tables.relocations n (omega (arith, steps.1.1, scan.low)) (omega (arith, steps.1.0, steps.1.1, scan.end_is)) asked_at.k_inside
 
-      one_more : first_refusal (tables o) (slots_of o) (tasks_of (tables o) row) ≡ refusal_by (tables o) (verdict_of v) (task_of o row k) rest
-      unfolding first_refusal rest
-      one_more =
-          scan.left ∙ ap (first_refusal (tables o) (slots_of o)) (within_next o row k h (same_section o row k within))
-          ∙ ap (λ w. refusal_by (tables o) w (task_of o row k) (first_refusal (tables o) (slots_of o) (tasks_left o row (k + 1)))) (sym j.says)
+      module _ {v : Verdict} (j : Judges o row first n v) where
+        rest : Option Refusal
+        rest = first_refusal (tables o) (slots_of o) (tasks_left o row (n + 1))
 
-      pub judge_refused : (r : told.Refusal) → some (refused_reply r) ≡ verdict_refusal v → some (refused_reply r) ≡ row_refusal o row
-      unfolding row_refusal
-      judge_refused r e = sym (ap replied one_more ∙ said_refusal (asked_at k h) v j rest ∙ ap (λ x. or_else x (replied rest)) (sym e))
+        one_more : first_refusal (tables o) (slots_of o) (tasks_of (tables o) row) ≡ refusal_by (tables o) (verdict_of v) (task_of o row n) rest
+        unfolding first_refusal rest
+        one_more =
+            scan.left ∙ ap (λ m. first_refusal (tables o) (slots_of o) (tasks_left o row m)) (sym steps.1.1)
+            ∙ ap (first_refusal (tables o) (slots_of o)) (within_next o row n asked_at.k_inside in_row)
+            ∙ ap (λ w. refusal_by (tables o) w (task_of o row n) (first_refusal (tables o) (slots_of o) (tasks_left o row (n + 1)))) (sym j.says)
 
-      pub judge_next : none ≡ verdict_refusal v → JudgeScan o row (k + 1)
-      unfolding rest
-      judge_next e = record {
-        low = omega (arith, scan.low);
-        high = omega arith;
-        left = one_more ∙ passed (tables o) (task_of o row k) v (sym e) rest;
-      }
+        pub judge_refused : (r : told.Refusal) → some (refused_reply r) ≡ verdict_refusal v → some (refused_reply r) ≡ row_refusal o row
+        unfolding row_refusal
+        judge_refused r e = sym (ap replied one_more ∙ said_refusal asked_at v j rest ∙ ap (λ x. or_else x (replied rest)) (sym e))
+
+        pub judge_next : none ≡ verdict_refusal v → JudgeScan o row k' past'
+        unfolding rest
+        judge_next e =
+            let next : n + 1 ≡ k' = omega (arith, steps.1.1, steps.1.2) in
+            record {
+              low = omega (arith, scan.low, steps.1.2);
+              end_is = steps.0 ∙ scan.end_is;
+              end_inside = omega (arith, steps.0, scan.end_inside);
+              left = one_more ∙ passed (tables o) (task_of o row n) v (sym e) rest ∙ ap (λ m. first_refusal (tables o) (slots_of o) (tasks_left o row m)) next;
+            }
 
 -- ---- the functions
 pub record JudgeRows (o : Offered) (row first : ℕ) : Type 0 where

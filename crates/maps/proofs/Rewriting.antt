@@ -2,8 +2,8 @@
 -- Assumes nothing.
 use mathlib.Core.Path.{◌≡◌, refl, sym, ap, ◌∙◌, subst}
 use mathlib.Core.Option.{Option, none, some}
-use mathlib.Core.List.{List, []}
-use Prim.Native.Nat.{ℕ, suc, ◌+◌, ◌*◌, ◌≤◌, ◌<◌, ◌^◌}
+use mathlib.Core.List.{List, ◌∷◌}
+use Prim.Native.Nat.{ℕ, suc, ◌+◌, ◌-◌, ◌*◌, ◌≤◌, ◌<◌, ◌^◌}
 use native.Mathlib.Numerals.{add-one}
 use native.Mathlib.Omega.{arith}
 use lib.IntN.{ℤ}
@@ -15,7 +15,7 @@ use Rattle.rules.specs.declared.Table.TheVariants.{Functions, Relocations}
 use Rattle.rules.specs.Bytes.{little, slot_size, decoded, immediate_stored, source_stored}
 use Rattle.rules.specs.Maps as step
 use Rattle.rules.specs.Maps.{judge, tasks_of, all_tasks, counted, rewrite, place, changed, change}
-use Rattle.rules.specs.Rows.{most_rows, most_function_slots, Offered, tables_of, whole_rows, summed, total, function_slots}
+use Rattle.rules.specs.Rows.{most_rows, most_function_slots, Offered, tables_of, whole_rows, summed, total, function_section, function_slots, relocation_section}
 use Rattle.rules.specs.Lookups.{MapChecked}
 use Rattle.rules.proofs.Searches.{summed_step, summed_bound}
 use Rattle.rules.proofs.Passed.{few_rows, good_function}
@@ -27,9 +27,9 @@ use Rattle.std.specs.Prelude.{Ok, Err, Some, None}
 use Rattle.judge.specs.declared.Change.{Change}
 use Rattle.judge.specs.Verdicts.{Verdict, value_of, RoomFor}
 use Rattle.judge.specs.Judged.{with_instructions, tables, slots_of, task_of, slot_of, RowAsked, Asked, Inside, Judges}
-use Rattle.maps.specs.Passes.{first_row, ChangesInside, Changed, OneRewritten, RowRewritten, AllRewritten}
-use Rattle.maps.proofs.Tasks.{rewrite_joined, count_joined, tasks_left, none_left, from_first, within_next, scan_end, rows_left, all_rows, rows_next, rows_end, rewrites_other, counts_other}
-use Rattle.maps.proofs.Passes.{place_is, same_section, Within, Without}
+use Rattle.maps.specs.Passes.{RelocationsOf, first_row, past_row, ChangesInside, Changed, OneRewritten, RowRewritten, AllRewritten}
+use Rattle.maps.proofs.Tasks.{rewrite_joined, count_joined, tasks_left, none_left, in_section, from_first, within_next, rows_left, all_rows, rows_next, rows_end, rewrites_other, counts_other}
+use Rattle.maps.proofs.Passes.{place_is, Steps}
 
 -- ---- the checks hold of any bytes of that length
 still_checked : {o : Offered} (after : List ℕ) → length after ≡ length o.instructions → MapChecked o → MapChecked (with_instructions o after)
@@ -145,83 +145,89 @@ from_zero n = omega arith
 no_more : (n : ℕ) → n + 0 ≡ n
 no_more n = omega arith
 
--- ---- the scan of a function's relocations; `now` is table 6 as it stands
-pub record RewriteScan (o : Offered) (now : List ℕ) (row k count : ℕ) : Type 0 where
+-- ---- the scan of a function's relocations, from row k of table 4 on to the row `past`; `now` is table 6 as it stands
+pub record RewriteScan (o : Offered) (now : List ℕ) (row k past count : ℕ) : Type 0 where
   pub low : first_row o.functions o.relocations row ≤ k
   pub high : k ≤ whole_rows Relocations o.relocations
+  pub end_is : past ≡ past_row o.functions o.relocations row
+  pub end_inside : past ≤ whole_rows Relocations o.relocations
   pub kept : length now ≡ length o.instructions
   pub few : count ≤ k
   pub image : rewrite_in_place (tables o) (tasks_of (tables o) row) (slots_of o) ≡ rewrite_in_place (tables o) (tasks_left o row k) (decoded little now)
   pub counts : applied_in_place (tables o) (tasks_of (tables o) row) (slots_of o) ≡ count + applied_in_place (tables o) (tasks_left o row k) (decoded little now)
 
 module _ {o : Offered} {row first : ℕ} (asked : RowAsked o row first) where
-  pub rewrite_start : (k : ℕ) → k ≡ first_row o.functions o.relocations row → k ≤ whole_rows Relocations o.relocations → RewriteScan o o.instructions row k 0
-  rewrite_start k e h =
-      let first = from_first o row asked.row_inside asked.checked.tables.relocations (rw e at h) in
-      rw e (record {
-        low = omega arith;
-        high = rw e at h;
+  pub rewrite_start : {k past : ℕ} → RelocationsOf o.functions o.relocations row k past → RewriteScan o o.instructions row k past 0
+  rewrite_start {k} {past} of =
+      let first = from_first o row asked.row_inside asked.checked.tables.relocations (omega (arith, of.start_is, of.start_inside)) in
+      record {
+        low = omega (arith, of.start_is);
+        high = of.start_inside;
+        end_is = of.end_is;
+        end_inside = of.end_inside;
         kept = refl;
         few = omega arith;
-        image = first.rewrites (slots_of o);
-        counts = first.counts (slots_of o) ∙ from_zero _;
-      })
+        image = first.rewrites (slots_of o) ∙ ap (λ n. rewrite_in_place (tables o) (tasks_left o row n) (slots_of o)) (sym of.start_is);
+        counts = first.counts (slots_of o) ∙ from_zero _ ∙ ap (λ n. 0 + applied_in_place (tables o) (tasks_left o row n) (slots_of o)) (sym of.start_is);
+      }
 
-  module _ {now : List ℕ} {k count : ℕ} (scan : RewriteScan o now row k count) where
-    pub rewrite_asked : k < whole_rows Relocations o.relocations → Asked (with_instructions o now) row first k
-    rewrite_asked h = record {
-      of_row = record { checked = still_checked now scan.kept asked.checked; row_inside = asked.row_inside; first_is = asked.first_is };
-      k_inside = h;
-    }
-
-    -- nothing left
-    finished : rewrite_in_place (tables o) (tasks_left o row k) (decoded little now) ≡ rewrite_in_place (tables o) [] (decoded little now)
-        → applied_in_place (tables o) (tasks_left o row k) (decoded little now) ≡ applied_in_place (tables o) [] (decoded little now) → RowRewritten o row count now
+  module _ {now : List ℕ} {k past count : ℕ} (scan : RewriteScan o now row k past count) where
+    pub rewrite_end : past - k ≡ 0 → RowRewritten o row count now
     unfolding rewrite_in_place applied_in_place
-    finished e f = record {
-      image = sym (scan.image ∙ e);
-      count = sym (scan.counts ∙ ap (λ n. count + n) f ∙ no_more count);
-      kept = scan.kept;
-      low = omega (arith, scan.few, scan.high);
-    }
-
-    pub rewrite_past : k < whole_rows Relocations o.relocations → Without o row k → RowRewritten o row count now
-    rewrite_past h past =
-        let None-more = none_left o row asked.row_inside asked.checked.tables.relocations k scan.low h past in
-        finished (None-more.rewrites (decoded little now)) (None-more.counts (decoded little now))
-
-    pub rewrite_end : whole_rows Relocations o.relocations ≤ k → RowRewritten o row count now
     rewrite_end h =
-        let e = scan_end o row k h in
-        finished (ap (λ z. rewrite_in_place (tables o) z (decoded little now)) e) (ap (λ z. applied_in_place (tables o) z (decoded little now)) e)
+        let None-more = none_left o row asked.row_inside asked.checked.tables.relocations k (omega (arith, scan.end_is, h)) in
+        record {
+          image = sym (scan.image ∙ None-more.rewrites (decoded little now));
+          count = sym (scan.counts ∙ ap (λ n. count + n) (None-more.counts (decoded little now)) ∙ no_more count);
+          kept = scan.kept;
+          low = omega (arith, scan.few, scan.high);
+        }
 
-    module _ (h : k < whole_rows Relocations o.relocations) (within : Within o row k) {r : ℕ} {after : List ℕ} (one : OneRewritten (with_instructions o now) row k r after) where
-      -- only the slots as they stand are looked at
-      image_after : decoded little after
-          ≡ rewrite (tables o) (judge (tables o) (decoded little now) (task_of o row k)) (task_of o row k) (decoded little now)
-      unfolding judge tables_of
-      image_after = one.image
+    module _ (n k' past' : ℕ) (steps : Steps k past n k' past') where
+      inside-n : n < whole_rows Relocations o.relocations
+      inside-n = omega (arith, steps.1.0, steps.1.1, scan.end_inside)
 
-      count_after : (later : ℕ) → counted (tables o) (judge (tables o) (decoded little now) (task_of o row k)) later ≡ r + later
-      unfolding judge tables_of
-      count_after = one.count
+      in_row : relocation_section o.relocations n ≡ function_section o.functions row
+      in_row = in_section o row asked.row_inside asked.checked.tables.relocations n (omega (arith, steps.1.1, scan.low)) (omega (arith, steps.1.0, steps.1.1, scan.end_is)) inside-n
 
-      pub rewrite_next : RewriteScan o after row (k + 1) (count + r)
-      unfolding rewrite_in_place applied_in_place
-      rewrite_next =
-          let e = within_next o row k h (same_section o row k within) in
-          record {
-            low = omega (arith, scan.low);
-            high = omega arith;
-            kept = one.kept ∙ scan.kept;
-            few = omega (arith, scan.few, one.low);
-            image = scan.image ∙ ap (λ z. rewrite_in_place (tables o) z (decoded little now)) e
-                ∙ ap (rewrite_in_place (tables o) (tasks_left o row (k + 1))) (sym image_after);
-            counts = scan.counts ∙ ap (λ z. count + applied_in_place (tables o) z (decoded little now)) e
-                ∙ ap (λ n. count + n) (count_after _)
-                ∙ ap (λ i. count + (r + applied_in_place (tables o) (tasks_left o row (k + 1)) i)) (sym image_after)
-                ∙ joined count r _;
-          }
+      pub rewrite_asked : Asked (with_instructions o now) row first n
+      rewrite_asked = record {
+        of_row = record { checked = still_checked now scan.kept asked.checked; row_inside = asked.row_inside; first_is = asked.first_is };
+        k_inside = inside-n;
+      }
+
+      module _ {r : ℕ} {after : List ℕ} (one : OneRewritten (with_instructions o now) row n r after) where
+        -- only the slots as they stand are looked at
+        image_after : decoded little after
+            ≡ rewrite (tables o) (judge (tables o) (decoded little now) (task_of o row n)) (task_of o row n) (decoded little now)
+        unfolding judge tables_of
+        image_after = one.image
+
+        count_after : (later : ℕ) → counted (tables o) (judge (tables o) (decoded little now) (task_of o row n)) later ≡ r + later
+        unfolding judge tables_of
+        count_after = one.count
+
+        left_now : tasks_left o row k ≡ task_of o row n ∷ tasks_left o row k'
+        left_now =
+            let next : n + 1 ≡ k' = omega (arith, steps.1.1, steps.1.2) in
+            ap (tasks_left o row) (sym steps.1.1) ∙ within_next o row n inside-n in_row ∙ ap (λ m. task_of o row n ∷ tasks_left o row m) next
+
+        pub rewrite_next : RewriteScan o after row k' past' (count + r)
+        unfolding rewrite_in_place applied_in_place
+        rewrite_next = record {
+          low = omega (arith, scan.low, steps.1.2);
+          high = omega (arith, inside-n, steps.1.1, steps.1.2);
+          end_is = steps.0 ∙ scan.end_is;
+          end_inside = omega (arith, steps.0, scan.end_inside);
+          kept = one.kept ∙ scan.kept;
+          few = omega (arith, scan.few, one.low, steps.1.2);
+          image = scan.image ∙ ap (λ z. rewrite_in_place (tables o) z (decoded little now)) left_now
+              ∙ ap (rewrite_in_place (tables o) (tasks_left o row k')) (sym image_after);
+          counts = scan.counts ∙ ap (λ z. count + applied_in_place (tables o) z (decoded little now)) left_now
+              ∙ ap (λ m. count + m) (count_after _)
+              ∙ ap (λ i. count + (r + applied_in_place (tables o) (tasks_left o row k') i)) (sym image_after)
+              ∙ joined count r _;
+        }
 
 -- ---- the functions
 pub record RewriteRows (o : Offered) (now : List ℕ) (row first count : ℕ) : Type 0 where

@@ -1,14 +1,13 @@
 -- The tasks of a function, as a scan of table 4 by row number. Rows of other sections, and those outside the function, change nothing.
 -- Assumes nothing.
 use mathlib.Core.Path.{◌≡◌, refl, sym, ap, ◌∙◌}
-use mathlib.Core.Logic.{inl, inr, ⊎_elim}
+use mathlib.Core.Logic.{inl, inr}
 use mathlib.Core.Bool.{Bool, true, false, cond, ◌&&◌}
 use mathlib.Core.List.{List, [], ◌∷◌, ◌++◌, map}
 use Prim.Native.Nat.{ℕ, zero, suc, ◌+◌, ◌-◌, ◌≤◌, ◌<◌}
-use native.Mathlib.Nat.{eq-or-lt_of_le}
 use native.Mathlib.Numerals.{add-one}
 use native.Mathlib.Omega.{arith}
-use borrow.Author.Tests.{eqb-true, eq-eqb, lt-leb, le-ltb, ltb-false}
+use borrow.Author.Tests.{eqb-true, eq-eqb, lt-leb, le-ltb, ltb-true, ltb-false}
 use lib.Dec.{eqb, ltb, leb}
 use Rattle.rules.specs.declared.Table.TheVariants.{Functions, Relocations}
 use Rattle.rules.specs.Object.{Insn}
@@ -17,14 +16,14 @@ use Rattle.rules.specs.Bytes.{little}
 use Rattle.rules.specs.Tables.{Relocation, Tables, row_of, Before}
 use Rattle.rules.specs.Maps.{Task, task, Verdict, skipped, refused, applies, only, inside, judge, tasks_of, tasks, all_tasks, refusal_by, first_refusal, counted, rewrite, or_else}
 use Rattle.rules.specs.Rows.{Offered, whole_rows, tables_of, function_row, function_section, function_offset, relocation_row, relocation_section, relocation_offset}
-use Rattle.rules.specs.Lookups.{Sound, RisingPair}
+use Rattle.rules.specs.Lookups.{Sound}
 use Rattle.rules.proofs.InPlace.{rewrite_in_place, applied_in_place}
-use Rattle.rules.proofs.Passed.{below_before, before_below, relocations_rise}
+use Rattle.rules.proofs.Passed.{below_before, before_below}
 use Rattle.rules.proofs.Reading.{rows_are, row_is}
 use Rattle.rows.specs.Matches.{relocation_is_before}
 use Rattle.rows.proofs.Bound.{before_bound, from_bound}
 use Rattle.judge.specs.Judged.{with_instructions, tables, task_of}
-use Rattle.maps.specs.Passes.{is_within, end_of, first_row}
+use Rattle.maps.specs.Passes.{end_of, first_row, past_row}
 
 -- ---- lists of tasks, one after another
 module _ (t : Tables) where
@@ -154,39 +153,40 @@ module _ (o : Offered) (row : ℕ) (inside-row : row < whole_rows Functions o.fu
           ∙ and_none (leb (function_offset o.functions row) (relocation_offset o.relocations k))
 
   module _ (sound : Sound Relocations o.relocations) where
-    -- where a row is the first past the function, so are those after it
-    module _ (k : ℕ) (from : first_row o.functions o.relocations row ≤ k) (inside-k : k < whole_rows Relocations o.relocations)
-        (past : is_within o.relocations (function_section o.functions row) (end_of o.functions row) k ≡ false) where
-      own_end : relocation_section o.relocations k ≡ function_section o.functions row → end_of o.functions row ≤ relocation_offset o.relocations k
-      own_end s =
-          ltb-false _ _ (sym (ap (λ b. b && ltb (relocation_offset o.relocations k) (end_of o.functions row)) (eq-eqb _ _ s)) ∙ past)
+    -- from the first row past the function on
+    own_end : (k : ℕ) → past_row o.functions o.relocations row ≤ k → k < whole_rows Relocations o.relocations
+        → relocation_section o.relocations k ≡ function_section o.functions row → end_of o.functions row ≤ relocation_offset o.relocations k
+    own_end k past h s = go (ltb (relocation_offset o.relocations k) (end_of o.functions row)) refl
+      where
+        go : (b : Bool) → ltb (relocation_offset o.relocations k) (end_of o.functions row) ≡ b → end_of o.functions row ≤ relocation_offset o.relocations k
+        go false l = ltb-false _ _ l
+        go true l =
+            let e = before_below (relocation_section o.relocations k) (relocation_offset o.relocations k) (function_section o.functions row) (end_of o.functions row) (inr (s, ltb-true _ _ l)) in
+            let f = from_bound o.relocations sound (function_section o.functions row) (end_of o.functions row) k past h in
+            let z : ◌≡◌ {A = ℕ} 0 1 = cc in
+            absurd (omega arith)
 
-      not_before : relocation_is_before o.relocations (function_section o.functions row) (function_offset o.functions row) k ≡ false
-      not_before = from_bound o.relocations sound (function_section o.functions row) (function_offset o.functions row) k from inside-k
+    pub none_left : (k : ℕ) → past_row o.functions o.relocations row ≤ k → Same (tables o) (tasks_left o row k) []
+    none_left k past =
+        let n = whole_rows Relocations o.relocations in
+        let e : n - k ≡ n - k + 0 = omega arith in
+        then_same (tables o) (same (tables o) (ap (tasks_from o row k) e))
+        (then_same (tables o) (idle_run (n - k) k 0 (λ j a b. end_idle j (own_end j (omega arith) (omega arith)))) (same (tables o) (end_of_lem o row (k + (n - k)))))
 
-      later_end : (j : ℕ) → k < j → j < whole_rows Relocations o.relocations → relocation_section o.relocations j ≡ function_section o.functions row
-          → end_of o.functions row ≤ relocation_offset o.relocations j
-      unfolding RisingPair
-      later_end j a b s = go (relocations_rise o.relocations sound k j a b)
-        where
-          go : Before (relocation_section o.relocations k) (relocation_offset o.relocations k) (relocation_section o.relocations j) (relocation_offset o.relocations j)
-              → end_of o.functions row ≤ relocation_offset o.relocations j
-          go (inl less) =
-              let e = before_below (relocation_section o.relocations k) (relocation_offset o.relocations k) (function_section o.functions row) (function_offset o.functions row) (inl (omega arith)) in
-              let f = not_before in
-              let z : ◌≡◌ {A = ℕ} 0 1 = cc in
-              absurd (omega arith)
-          go (inr (e, less)) = omega (arith, own_end (e ∙ s))
-
-      past_idle : (j : ℕ) → k ≤ j → j < whole_rows Relocations o.relocations → Idle j
-      past_idle j a b = end_idle j (⊎_elim (λ (same : k ≡ j). λ s. rw same at (own_end (rw same s))) (λ (less : k < j). later_end j less b) (eq-or-lt_of_le a))
-
-      pub none_left : Same (tables o) (tasks_left o row k) []
-      none_left =
-          let n = whole_rows Relocations o.relocations in
-          let e : n - k ≡ n - k + 0 = omega arith in
-          then_same (tables o) (same (tables o) (ap (tasks_from o row k) e))
-          (then_same (tables o) (idle_run (n - k) k 0 (λ j a b. past_idle j a (omega arith))) (same (tables o) (end_of_lem o row (k + (n - k)))))
+    -- the rows between
+    pub in_section : (k : ℕ) → first_row o.functions o.relocations row ≤ k → k < past_row o.functions o.relocations row → k < whole_rows Relocations o.relocations
+        → relocation_section o.relocations k ≡ function_section o.functions row
+    in_section k from to h =
+        go (below_before _ _ _ _ (before_bound o.relocations sound (function_section o.functions row) (end_of o.functions row) k to))
+      where
+        go : Before (relocation_section o.relocations k) (relocation_offset o.relocations k) (function_section o.functions row) (end_of o.functions row)
+            → relocation_section o.relocations k ≡ function_section o.functions row
+        go (inl less) =
+            let e = before_below (relocation_section o.relocations k) (relocation_offset o.relocations k) (function_section o.functions row) (function_offset o.functions row) (inl less) in
+            let f = from_bound o.relocations sound (function_section o.functions row) (function_offset o.functions row) k from h in
+            let z : ◌≡◌ {A = ℕ} 0 1 = cc in
+            absurd (omega arith)
+        go (inr (e, less)) = e
 
     pub from_first : first_row o.functions o.relocations row ≤ whole_rows Relocations o.relocations
         → Same (tables o) (tasks_of (tables o) row) (tasks_left o row (first_row o.functions o.relocations row))
@@ -214,10 +214,6 @@ module _ (o : Offered) (row k : ℕ) where
       ∙ ap (λ b. map (task row) (cond b (relocation_row o.relocations k ∷ later (n - (k + 1))) (later (n - (k + 1)))))
       (eq-eqb (relocation_section o.relocations k) (function_section o.functions row) s)
       ∙ ap (λ j. task_of o row k ∷ tasks_from o row j (n - (k + 1))) (sym (add-one k))
-
-  pub scan_end : whole_rows Relocations o.relocations ≤ k → tasks_left o row k ≡ []
-  unfolding tasks_from
-  scan_end h = let e : whole_rows Relocations o.relocations - k ≡ 0 = omega arith in ap (tasks_from o row k) e
 
 -- ---- the functions from a row on
 abbrev pub rows_left : Offered → ℕ → List Task

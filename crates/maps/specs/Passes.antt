@@ -1,6 +1,6 @@
 -- What the two passes over the functions and their relocations answer and leave.
 -- Assumes nothing.
-use Rattle.std.specs.Prelude.{◌≡◌, Bool, ◌&&◌, List, ℕ, ◌+◌, ◌*◌, ◌≤◌, ℤ, suc, ◌<◌, ◌^◌, eqb, ltb, length, Result, Ok, Err}
+use Rattle.std.specs.Prelude.{◌≡◌, List, ℕ, ◌+◌, ◌*◌, ◌≤◌, ℤ, suc, ◌<◌, ◌^◌, length, Result, Ok, Err}
 use Rattle.std.proofs.Math.Option.{Option, none, some}
 use Rattle.rules.specs.declared.Places.{Places}
 use Rattle.rules.specs.declared.Refusal as told
@@ -9,7 +9,7 @@ use Rattle.rules.specs.Link.{Refusal}
 use Rattle.rules.specs.Bytes.{little, decoded}
 use Rattle.rules.specs.Answers.{Reply, refused_reply, reply_of}
 use Rattle.rules.specs.Maps.{changed, tasks_of, all_tasks, first_refusal, counted, judge, rewrite, map_step}
-use Rattle.rules.specs.Rows.{Offered, whole_rows, function_section, function_offset, function_slots, relocation_section, relocation_offset}
+use Rattle.rules.specs.Rows.{Offered, whole_rows, function_section, function_offset, function_slots}
 use Rattle.rules.specs.Lookups.{relocations_before}
 use Rattle.rules.specs.Entries.{refusal_reply, MapResult, by_map_outcome}
 use Rattle.rules.proofs.InPlace.{rewrite_in_place, applied_in_place}
@@ -27,15 +27,23 @@ replied none = none
 replied (some why) = some (refusal_reply why)
 
 -- ---- the relocations of a function
-abbrev pub is_within : List ℕ → ℕ → ℕ → ℕ → Bool
-is_within t home end k = eqb (relocation_section t k) home && ltb (relocation_offset t k) end
-
 abbrev pub end_of : List ℕ → ℕ → ℕ
 end_of t row = function_offset t row + 8 * function_slots t row
 
 -- the first row of table 4 at or after the function's start
 abbrev pub first_row : List ℕ → List ℕ → ℕ → ℕ
 first_row functions relocations row = relocations_before relocations (function_section functions row) (function_offset functions row)
+
+-- the first at or after its end
+abbrev pub past_row : List ℕ → List ℕ → ℕ → ℕ
+past_row functions relocations row = relocations_before relocations (function_section functions row) (end_of functions row)
+
+-- from that row to that row
+pub record RelocationsOf (functions relocations : List ℕ) (row start end : ℕ) : Type 0 where
+  pub start_is : start ≡ first_row functions relocations row
+  pub end_is : end ≡ past_row functions relocations row
+  pub start_inside : start ≤ whole_rows Relocations relocations
+  pub end_inside : end ≤ whole_rows Relocations relocations
 
 -- ---- the first pass: what is refused in a function, and in all
 unfoldable pub row_refusal : Offered → ℕ → Option Reply

@@ -1,38 +1,27 @@
 // The map step: every relocation of every function judged, then all that apply rewritten in place.
 #![tactic(auto)]
 
-ghost use Rattle.std.specs.Prelude.{◌≡◌, ◌+◌, ◌*◌, ◌≤◌, ◌<◌, length};
+ghost use Rattle.std.specs.Prelude.{◌≡◌, ◌<◌};
 ghost use Rattle.rules.specs.declared.Table.TheVariants.{Functions, Relocations};
 ghost use Rattle.rules.specs.Answers.{refusal_in};
 ghost use Rattle.rules.specs.Bytes.{little};
 ghost use Rattle.rules.specs.Entries.{map_entry};
 ghost use Rattle.rules.specs.Lent.{lent_maps};
 ghost use Rattle.rules.specs.Lookups.{Sound, MapChecked};
-ghost use Rattle.rules.specs.Rows.{row_size, whole_rows};
+ghost use Rattle.rules.specs.Rows.{whole_rows};
 ghost use Rattle.judge.specs.Verdicts.{value_of};
 ghost use Rattle.judge.specs.Judged.{RowAsked, Asked};
-ghost use Rattle.maps.specs.Passes.{row_refusal, step_refusal, is_within, end_of, first_row};
-ghost use Rattle.maps.specs.Passes.{ChangesInside, Changed, OneRewritten, RowRewritten, AllRewritten, step_result, Relocated};
+ghost use Rattle.maps.specs.Passes.{row_refusal, step_refusal, end_of, RelocationsOf};
+ghost use Rattle.maps.specs.Passes.{ChangesInside, Changed, OneRewritten, RowRewritten, AllRewritten, Relocated};
 
-use insn::{next, place, set_immediate, set_source, slot_at};
+use insn::{after, next, place, set_immediate, set_source, slot_at};
 use judge::{Change, judge};
-use rows::fields::{
-    function_offset, function_section, function_slots, relocation_offset, relocation_section,
-};
+use rows::fields::{function_offset, function_section, function_slots};
 use rows::find::relocations_before;
-use rules::limits::{FUNCTION_SIZE, RELOCATION_SIZE};
+use rules::limits::FUNCTION_SIZE;
 use rules::{ByteOffset, Names, Places, Refusal, Slot};
+use std::ops::Range;
 use tables::checks::check_map_step;
-
-// Whether row k of table 4 is of the section `home`, before the offset `end`.
-fn is_within(relocations: &[u8], k: usize, home: u32, end: ByteOffset) -> bool
-    requires { row_size Relocations * k + row_size Relocations ≤ length relocations.now }
-    ensures { result ≡ is_within relocations.now home end.0 k }
-{
-    let section = relocation_section(relocations, k);
-    let offset = relocation_offset(relocations, k);
-    section == home && offset < end
-}
 
 fn end_of(functions: &[u8], row: usize) -> ByteOffset
     requires { Sound Functions functions.now × (row < whole_rows Functions functions.now) }
@@ -44,17 +33,23 @@ fn end_of(functions: &[u8], row: usize) -> ByteOffset
     )
 }
 
-fn first_of(functions: &[u8], relocations: &[u8], row: usize) -> usize
-    requires { Sound Relocations relocations.now × (row < whole_rows Functions functions.now) }
-    ensures { (result ≡ first_row functions.now relocations.now row) × (result ≤ whole_rows Relocations relocations.now) }
+// The rows of table 4 that are of the function `row`.
+fn relocations_of(names: Names, row: usize) -> Range<usize>
+    requires { Sound Functions names.functions.now × Sound Relocations names.relocations.now × (row < whole_rows Functions names.functions.now) }
+    ensures { RelocationsOf names.entry.functions.now names.entry.relocations.now row result.start result.end }
 {
-    relocations_before(
-        relocations,
-        function_section(functions, row),
-        function_offset(functions, row),
-    )
+    let home = function_section(names.functions, row);
+    let start = relocations_before(
+        names.relocations,
+        home,
+        function_offset(names.functions, row),
+    );
+    let end = relocations_before(names.relocations, home, end_of(names.functions, row));
+    start..end
 }
 
+// The two passes walk alike, in functions of their own: rewriting refuses nothing, so one walk with a closure would have it answer a Result that
+// is never an Err.
 fn judge_function(
     names: Names,
     maps: &[u8],
@@ -65,16 +60,8 @@ fn judge_function(
     requires { RowAsked (lent_maps names maps.now instructions.now) row first.0 }
     ensures { refusal_in result ≡ row_refusal (lent_maps names.entry maps.now instructions.now) row }
 {
-    let home = function_section(names.functions, row);
-    let end = end_of(names.functions, row);
-    let n = names.relocations.len() / RELOCATION_SIZE;
-    let mut k = first_of(names.functions, names.relocations, row);
-    while k < n {
-        if !is_within(names.relocations, k, home, end) {
-            return Ok(());
-        }
+    for k in relocations_of(names, row) {
         judge(names, maps, instructions, row, first, k)?;
-        k += 1;
     }
     Ok(())
 }
@@ -84,13 +71,10 @@ fn judge_all(names: Names, maps: &[u8], instructions: &[u8]) -> Result<(), Refus
     ensures { refusal_in result ≡ step_refusal (lent_maps names.entry maps.now instructions.now) }
 {
     let n = names.functions.len() / FUNCTION_SIZE;
-    let mut row = 0;
-    let mut first: u32 = 0;
-    while row < n {
-        judge_function(names, maps, instructions, row, slot_at(first))?;
-        let slots = function_slots(names.functions, row);
-        first += slots.0;
-        row += 1;
+    let mut first = slot_at(0);
+    for row in 0..n {
+        judge_function(names, maps, instructions, row, first)?;
+        first = after(first, function_slots(names.functions, row));
     }
     Ok(())
 }
@@ -140,17 +124,9 @@ fn rewrite_function(
     requires { RowAsked (lent_maps names maps.now instructions.old) row first.0 }
     ensures { RowRewritten (lent_maps names.entry maps.now instructions.old) row result instructions.new }
 {
-    let home = function_section(names.functions, row);
-    let end = end_of(names.functions, row);
-    let n = names.relocations.len() / RELOCATION_SIZE;
-    let mut k = first_of(names.functions, names.relocations, row);
-    let mut count: u32 = 0;
-    while k < n {
-        if !is_within(names.relocations, k, home, end) {
-            return count;
-        }
+    let mut count = 0;
+    for k in relocations_of(names, row) {
         count += rewrite_one(names, maps, instructions, row, first, k);
-        k += 1;
     }
     count
 }
@@ -160,25 +136,13 @@ fn rewrite_all(names: Names, maps: &[u8], instructions: &mut [u8]) -> u32
     ensures { AllRewritten (lent_maps names.entry maps.now instructions.old) result instructions.new }
 {
     let rows = names.functions.len() / FUNCTION_SIZE;
-    let mut row = 0;
-    let mut first: u32 = 0;
-    let mut count: u32 = 0;
-    while row < rows {
-        count += rewrite_function(names, maps, instructions, row, slot_at(first));
-        let slots = function_slots(names.functions, row);
-        first += slots.0;
-        row += 1;
+    let mut first = slot_at(0);
+    let mut count = 0;
+    for row in 0..rows {
+        count += rewrite_function(names, maps, instructions, row, first);
+        first = after(first, function_slots(names.functions, row));
     }
     count
-}
-
-fn relocate_checked(names: Names, maps: &[u8], instructions: &mut [u8]) -> Result<Places, Refusal>
-    requires { MapChecked (lent_maps names maps.now instructions.old) }
-    ensures { Relocated (step_result (lent_maps names.entry maps.now instructions.old)) result instructions.new }
-{
-    judge_all(names, maps, instructions)?;
-    let count = rewrite_all(names, maps, instructions);
-    Ok(Places(count, 0, 0))
 }
 
 // Tables 1 to 6; table 6 is rewritten in place, only once nothing is refused.
@@ -186,5 +150,7 @@ pub fn relocate_maps(names: Names, maps: &[u8], instructions: &mut [u8]) -> Resu
     ensures { Relocated (map_entry little (lent_maps names.entry maps.now instructions.old)) result instructions.new }
 {
     check_map_step(names, maps, instructions)?;
-    relocate_checked(names, maps, instructions)
+    judge_all(names, maps, instructions)?;
+    let count = rewrite_all(names, maps, instructions);
+    Ok(Places(count, 0, 0))
 }

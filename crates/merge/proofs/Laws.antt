@@ -7,38 +7,16 @@ use native.Mathlib.Omega.{arith}
 use native.Mathlib.Nat.{add-zero, mul-zero, mul-suc, mul-le-mul_left}
 use native.Mathlib.Numerals.{add-one}
 use lib.ListN.{length, take, drop, length-append}
-use lib.Seq.{length-take-le, take_at, drop-append-add, drop-drop, take-add, paste-zero}
+use lib.Seq.{drop-drop, take-add}
 use Rattle.rules.specs.Bytes.{little, u32_at, bytes4, splice, AreBytes}
+use Rattle.rules.specs.Answers.{numbers}
 use Rattle.rules.specs.Link.{run}
 use Rattle.rules.specs.Tables.{FunctionRecord, LineRecord}
 use Rattle.rules.specs.Rows.{record_slot, record_type, record_file, record_line, record_column, func_info_row, line_info_row}
 use Rattle.rules.specs.Entries.{func_info_bytes, line_info_bytes}
+use Rattle.rules.proofs.Splices.{splice_more}
 use Rattle.rules.proofs.Linking.{length_run}
 use Rattle.rules.proofs.Rounds.{bytes4_at, from_part}
-use Rattle.merge.specs.Merge.{pair_bytes}
-
--- ---- a splice of nothing, and one right after another
-pub splice_nothing : (d : List ℕ) (p : ℕ) → d ≡ splice d p []
-unfolding splice
-splice_nothing d p = paste-zero d p []
-
-module _ (d : List ℕ) (p : ℕ) (xs ys : List ℕ) (q : ℕ) (next : q ≡ p + length xs) (fits : q + length ys ≤ length d) where
-  head : length (take p d ++ xs) ≡ q
-  head = length-append (take p d) xs ∙ omega (arith, length-take-le p d (omega arith))
-
-  rest : drop (q + length ys) ((take p d ++ xs) ++ drop (p + length xs) d) ≡ drop (p + length (xs ++ ys)) d
-  rest =
-      ap (λ (n : ℕ). drop (n + length ys) ((take p d ++ xs) ++ drop (p + length xs) d)) (sym head)
-      ∙ drop-append-add (take p d ++ xs) (drop (p + length xs) d) (length ys)
-      ∙ drop-drop (length ys) (p + length xs) d
-      ∙ ap (λ (n : ℕ). drop n d) (let e : p + length xs + length ys ≡ p + length (xs ++ ys) = omega (arith, length-append xs ys) in e)
-
-  pub splice_more : splice (splice d p xs) q ys ≡ splice d p (xs ++ ys)
-  unfolding splice
-  splice_more =
-      ap (λ (l : List ℕ). l ++ ys ++ drop (q + length ys) ((take p d ++ xs) ++ drop (p + length xs) d)) (take_at (take p d ++ xs) (drop (p + length xs) d) q head)
-      ∙ ap (λ (l : List ℕ). (take p d ++ xs) ++ ys ++ l) rest
-      ∙ ap (λ (l : List ℕ). l ++ drop (p + length (xs ++ ys)) d) (append_assoc (take p d) xs ys)
 
 -- ---- runs
 pub run_more : {A : Type 0} (f : ℕ → A) (from n : ℕ) → run f from (n + 1) ≡ run f from n ++ (f (from + n) ∷ [])
@@ -100,26 +78,26 @@ module _ {A : Type 0} (one : A → List ℕ) where
 
 -- ---- the two kinds
 unfoldable pub func_one : FunctionRecord → List ℕ
-func_one r = pair_bytes r.slot r.kind
+func_one r = numbers (r.slot ∷ r.kind ∷ [])
 
 unfoldable pub line_one : LineRecord → List ℕ
-line_one r = pair_bytes r.slot r.file ++ pair_bytes r.line r.column
+line_one r = numbers (r.slot ∷ r.file ∷ r.line ∷ r.column ∷ [])
 
 pub func_sized : (r : FunctionRecord) → length (func_one r) ≡ 8
-unfolding func_one pair_bytes
+unfolding func_one
 func_sized r = refl
 
 pub line_sized : (r : LineRecord) → length (line_one r) ≡ 16
-unfolding line_one pair_bytes
+unfolding line_one
 line_sized r = refl
 
 func_packed : (rs : List FunctionRecord) → func_info_bytes little rs ≡ packed func_one rs
-unfolding func_one pair_bytes
+unfolding func_one
 func_packed [] = refl
 func_packed (r ∷ rs) = ap (λ l. func_one r ++ l) (func_packed rs)
 
 line_packed : (rs : List LineRecord) → line_info_bytes little rs ≡ packed line_one rs
-unfolding line_one pair_bytes
+unfolding line_one
 line_packed [] = refl
 line_packed (r ∷ rs) = ap (λ l. line_one r ++ l) (line_packed rs)
 
@@ -141,8 +119,10 @@ module _ (t : List ℕ) (are : AreBytes t) where
       let e₃ : at + 3 ≡ suc (suc (suc at)) = omega arith in
       bytes4_at little t are at ∙ rw (e₁, e₂, e₃) (from_part little t are 4 at l)
 
+  abbrev pair_bytes : ℕ → ℕ → List ℕ
+  pair_bytes a b = bytes4 little a ++ bytes4 little b
+
   pair_part : (at at' : ℕ) → at' ≡ at + 4 → at + 8 ≤ length t → pair_bytes (u32_at little t at) (u32_at little t at') ≡ take 8 (drop at t)
-  unfolding pair_bytes
   pair_part at at' e l =
       ap (λ x. x ++ bytes4 little (u32_at little t at')) (number_part at (omega arith))
       ∙ ap (λ x. take 4 (drop at t) ++ x) (number_part at' (omega arith))

@@ -1,19 +1,20 @@
 -- One turn of the loops that copy records: the record that is put next is the next of the run.
 -- Assumes nothing.
-use mathlib.Core.Path.{◌≡◌, refl, sym, ap, ◌∙◌}
-use mathlib.Core.List.{List, ◌++◌, map}
+use mathlib.Core.Path.{◌≡◌, sym, ap, ◌∙◌}
+use mathlib.Core.List.{List, [], ◌∷◌, map}
 use Prim.Native.Nat.{ℕ, zero, suc, ◌+◌, ◌-◌, ◌*◌, ◌≤◌, ◌<◌}
 use native.Mathlib.Omega.{arith}
 use lib.ListN.{length}
 use Rattle.rules.specs.declared.Table.TheVariants.{LineInfo}
 use Rattle.rules.specs.Bytes.{little, splice}
+use Rattle.rules.specs.Answers.{numbers}
 use Rattle.rules.specs.Link.{run}
 use Rattle.rules.specs.Tables.{FunctionRecord, LineRecord}
 use Rattle.rules.specs.Rows.{record_slot, record_type, record_file, record_line, record_column, func_info_row, line_info_row}
 use Rattle.rules.specs.Records.{started_at, rebased, first_slot}
 use Rattle.rules.specs.Entries.{func_info_bytes, line_info_bytes}
-use Rattle.merge.specs.Merge.{pair_bytes}
-use Rattle.merge.proofs.Laws.{splice_nothing, splice_more, func_linked, line_linked, packed, put_more, func_one, line_one, func_sized, line_sized}
+use Rattle.rules.proofs.Splices.{splice_nothing}
+use Rattle.merge.proofs.Laws.{func_linked, line_linked, packed, put_more, func_one, line_one, func_sized, line_sized}
 
 abbrev pub started : ℕ → List ℕ → ℕ → FunctionRecord
 started start t k = started_at start (func_info_row little t k)
@@ -54,24 +55,18 @@ lines_all t first origin start out at k (suc n) e o =
     ∙ ap (splice out (16 * at)) (sym (line_linked (rebased (record_slot little LineInfo t first) start) (line_info_row little t) first (suc n))))
 
 pub func_turn : (t : List ℕ) (first start : ℕ) (out out' : List ℕ) (at k kind : ℕ) → out' ≡ funcs_put t first start out at k → kind ≡ record_type little t (first + k)
-    → 8 * (at + k) + 8 ≤ length out → splice out' (8 * (at + k)) (pair_bytes start kind) ≡ funcs_put t first start out at (k + 1)
+    → 8 * (at + k) + 8 ≤ length out → splice out' (8 * (at + k)) (numbers (start ∷ kind ∷ [])) ≡ funcs_put t first start out at (k + 1)
 unfolding funcs_put func_one
 func_turn t first start out out' at k kind held e fits =
-    ap (λ d. splice d (8 * (at + k)) (pair_bytes start kind)) held
-    ∙ ap (λ n. splice (splice out (8 * at) (packed func_one (run (started start t) first k))) (8 * (at + k)) (pair_bytes start n)) e
+    ap (λ d. splice d (8 * (at + k)) (numbers (start ∷ kind ∷ []))) held
+    ∙ ap (λ n. splice (splice out (8 * at) (packed func_one (run (started start t) first k))) (8 * (at + k)) (numbers (start ∷ n ∷ []))) e
     ∙ put_more func_one 8 func_sized out (8 * at) (started start t) first k (8 * (at + k)) (omega arith) fits
 
-pair_length : (a b : ℕ) → length (pair_bytes a b) ≡ 8
-unfolding pair_bytes
-pair_length a b = refl
-
-pub line_turn : (t : List ℕ) (first origin start : ℕ) (out out' : List ℕ) (at k slot file line column : ℕ) → out' ≡ lines_put t first origin start out at k → length out' ≡ length out
+pub line_turn : (t : List ℕ) (first origin start : ℕ) (out out' : List ℕ) (at k slot file line column : ℕ) → out' ≡ lines_put t first origin start out at k
     → slot ≡ record_slot little LineInfo t (first + k) → file ≡ record_file little t (first + k) → line ≡ record_line little t (first + k) → column ≡ record_column little t (first + k)
     → 16 * (at + k) + 16 ≤ length out
-    → splice (splice out' (16 * (at + k)) (pair_bytes (start + (slot - origin)) file)) (16 * (at + k) + 8) (pair_bytes line column) ≡ lines_put t first origin start out at (k + 1)
+    → splice out' (16 * (at + k)) (numbers ((start + (slot - origin)) ∷ file ∷ line ∷ column ∷ [])) ≡ lines_put t first origin start out at (k + 1)
 unfolding lines_put line_one
-line_turn t first origin start out out' at k slot file line column held kept es ef el ec fits =
-    splice_more out' (16 * (at + k)) (pair_bytes (start + (slot - origin)) file) (pair_bytes line column) (16 * (at + k) + 8)
-    (ap (λ n. 16 * (at + k) + n) (sym (pair_length (start + (slot - origin)) file))) (omega (arith, pair_length line column))
-    ∙ ap (λ d. splice d (16 * (at + k)) (pair_bytes (start + (slot - origin)) file ++ pair_bytes line column)) held
+line_turn t first origin start out out' at k slot file line column held es ef el ec fits =
+    ap (λ d. splice d (16 * (at + k)) (numbers ((start + (slot - origin)) ∷ file ∷ line ∷ column ∷ []))) held
     ∙ rw (es, ef, el, ec) (put_more line_one 16 line_sized out (16 * at) (moved origin start t) first k (16 * (at + k)) (omega arith) fits)

@@ -1,9 +1,9 @@
 -- One function added to an image: the bytes that its row of table 3 stands for in tables 6, 7 and 8, and what they become.
 -- Assumes nothing.
-use Rattle.std.specs.Prelude.{◌≡◌, Bool, true, ◌&&◌, List, ◌++◌, map, ℕ, ◌+◌, ◌-◌, ◌*◌, ◌≤◌, ◌<◌, leb, ltb, length, take, drop}
+use Rattle.std.specs.Prelude.{◌≡◌, Bool, true, ◌&&◌, List, map, ℕ, ◌+◌, ◌-◌, ◌*◌, ◌≤◌, ◌<◌, leb, ltb, length, take, drop}
 use Rattle.std.proofs.Math.Option.{Option, none}
 use Rattle.rules.specs.declared.Table.TheVariants.{Functions, Instructions, FuncInfo, LineInfo}
-use Rattle.rules.specs.Bytes.{little, bytes4, splice}
+use Rattle.rules.specs.Bytes.{little, splice}
 use Rattle.rules.specs.Link.{run}
 use Rattle.rules.specs.Tables.{FunctionRecord, LineRecord}
 use Rattle.rules.specs.declared.Image.{Image}
@@ -106,10 +106,6 @@ pub record Lined (functions line_info : List ℕ) (row first : ℕ) : Type 0 whe
 pub record Copyable (size : ℕ) (table : List ℕ) (first count : ℕ) (out : List ℕ) (at : ℕ) : Type 0 where
   pub inside : size * (first + count) ≤ length table
   pub room : size * (at + count) ≤ length out
-
--- the bytes of two numbers
-unfoldable pub pair_bytes : ℕ → ℕ → List ℕ
-pair_bytes a b = bytes4 little a ++ bytes4 little b
 
 -- line record k does not stray: the difference is one, and the sum a u32
 pub record Nearby (line_info : List ℕ) (first start k : ℕ) : Type 0 where

@@ -9,7 +9,7 @@ ghost use Rattle.rules.specs.Rows.{row_size, whole_rows, line_info_row};
 ghost use Rattle.rules.specs.Records.{started_at};
 ghost use Rattle.rules.specs.Entries.{func_info_bytes, line_info_bytes};
 ghost use Rattle.rules.specs.Lookups.{found_of};
-ghost use Rattle.merge.specs.Merge.{RowCounts, PartBegins, Sums, Addable, sum, room_bytes, Lined, stays, stray_in, Copyable, pair_bytes};
+ghost use Rattle.merge.specs.Merge.{RowCounts, PartBegins, Sums, Addable, sum, room_bytes, Lined, stays, stray_in, Copyable};
 ghost use Rattle.merge.specs.Merge.{funcs_from, lines_from, moved, Near, Extends, Extended, Begins, Begun, SameOutputs};
 
 use rows::fields::{
@@ -22,7 +22,7 @@ use rules::limits::{
 };
 use rules::{Image, Program};
 use std::ops::Add;
-use wire::{copy, put_u32};
+use wire::{copy, put_numbers};
 
 // How much an image holds: slots, function records, line records.
 #[derive(Clone, Copy, PartialEq, Eq, Default)]
@@ -60,7 +60,7 @@ fn counts(functions: &[u8], row: usize) -> Used
     }
 }
 
-// Where a row's part begins in tables 6, 7 and 8.
+// Where a row's part begins in tables 6, 7 and 8: three sums in one pass, where tables::totals adds up one column.
 pub fn part_of(functions: &[u8], row: usize) -> Used
     requires { Sums functions.now row }
     ensures { PartBegins functions.now row result }
@@ -132,14 +132,6 @@ pub fn stray_line(functions: &[u8], line_info: &[u8], row: usize, first: u32) ->
     (0..count).find(|k| is_stray(line_info, at + *k, origin, slots))
 }
 
-fn put_pair(out: &mut [u8], at: usize, a: u32, b: u32)
-    requires { at + 8 ≤ length out.old }
-    ensures { out.new ≡ splice out.old at (pair_bytes a b) }
-{
-    put_u32(out, at, a);
-    put_u32(out, at + 4, b);
-}
-
 fn copy_rows(size: usize, table: &[u8], first: u32, count: u32, out: &mut [u8], at: u32)
     requires { Copyable size table.now first count out.old at }
     ensures copied { out.new ≡ splice out.old (size * at) (take (size * count) (drop (size * first) table.now)) }
@@ -154,7 +146,8 @@ fn copy_rows(size: usize, table: &[u8], first: u32, count: u32, out: &mut [u8], 
     );
 }
 
-// The crate's link_func_and_line_info, a function for each kind of record.
+// The crate's link_func_and_line_info. Two loops: the new slot of a line record is another, and one generic loop would ask for a trait with
+// laws longer than both.
 fn link_func_info(func_info: &[u8], part: Used, more: Used, out: &mut [u8], used: Used)
     requires { Copyable (row_size FuncInfo) func_info.now part.funcs more.funcs out.old used.funcs }
     ensures { out.new ≡ splice
@@ -168,7 +161,7 @@ fn link_func_info(func_info: &[u8], part: Used, more: Used, out: &mut [u8], used
     let slot = used.slots;
     for k in 0..n {
         let kind = func_info_type(func_info, from + k);
-        put_pair(out, FUNC_INFO_SIZE * (to + k), slot, kind);
+        put_numbers(out, FUNC_INFO_SIZE * (to + k), [slot, kind]);
     }
 }
 
@@ -190,11 +183,11 @@ fn link_line_info(line_info: &[u8], part: Used, more: Used, out: &mut [u8], used
     let origin = line_info_slot(line_info, from);
     for k in 0..n {
         let row = from + k;
-        let place = LINE_INFO_SIZE * (to + k);
         let slot = start + (line_info_slot(line_info, row) - origin);
-        put_pair(out, place, slot, line_info_file(line_info, row));
+        let file = line_info_file(line_info, row);
         let line = line_info_line(line_info, row);
-        put_pair(out, place + 8, line, line_info_column(line_info, row));
+        let column = line_info_column(line_info, row);
+        put_numbers(out, LINE_INFO_SIZE * (to + k), [slot, file, line, column]);
     }
 }
 
@@ -225,7 +218,7 @@ pub fn extend(
     used + more
 }
 
-// The root: its slots and its records as they stand.
+// The root: its slots and its records as they stand. Not extend at 0, which would give all function records the start as their slot.
 pub fn begin(functions: &[u8], program: Program, image: &mut Image, row: usize, part: Used) -> Used
     requires { Begins (lent_parts functions.now program) (lent_image image.old) row part }
     ensures written { Begun (lent_parts functions.now program.entry) (lent_image image.old) (lent_image image.new) row result }

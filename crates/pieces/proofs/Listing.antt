@@ -3,13 +3,13 @@
 use mathlib.Core.Path.{◌≡◌, refl, sym, ap, ◌∙◌}
 use mathlib.Core.Bool.{Bool, true, false, cond}
 use mathlib.Core.Option.{Option, none, some}
-use mathlib.Core.List.{List, [], ◌∷◌, ◌++◌, append_assoc}
+use mathlib.Core.List.{List, [], ◌∷◌, ◌++◌}
 use Prim.Native.Nat.{ℕ, zero, suc, ◌+◌, ◌*◌, ◌-◌, ◌≤◌, ◌<◌}
 use native.Mathlib.Omega.{arith}
 use borrow.Author.Tests.{lt-ltb, le-ltb, ltb-true, ltb-false}
 use lib.Dec.{eqb, ltb}
-use lib.ListN.{length, get_or, take, drop, replicate, length-append}
-use lib.Seq.{length-take-le, get_or-take, take_at, drop-append-add, drop-drop, paste-zero}
+use lib.ListN.{length, get_or, take, drop, replicate}
+use lib.Seq.{length-take-le, get_or-take}
 use Rattle.rules.specs.declared.Table.TheVariants.{Functions}
 use Rattle.rules.specs.Bytes.{splice, padded}
 use Rattle.rules.specs.Faithful.{Piece, piece}
@@ -20,32 +20,9 @@ use Rattle.std.proofs.lemmas.List.Sums.{passes_at_first, fails_before_first}
 use Rattle.rules.specs.Pieces.{piece_size, pieces_bytes}
 use Rattle.rules.specs.Rows.{whole_rows, function_slots, first_from}
 use Rattle.rules.proofs.Searches.{first_at, first_nothing}
-use Rattle.rules.proofs.Splices.{splice_length}
+use Rattle.rules.proofs.Splices.{splice_length, splice_nothing, splice_more}
 use Rattle.rows.proofs.Laws.{found_some, found_none, row_found}
 use Rattle.pieces.specs.InOrder.{piece_bytes, row_at, and_next, in_order, Puts}
-
--- ---- a splice of nothing, one right after another, and one over zeros
-pub splice_nothing : (d : List ℕ) (p : ℕ) → d ≡ splice d p []
-unfolding splice
-splice_nothing d p = paste-zero d p []
-
-module _ (d : List ℕ) (p : ℕ) (xs ys : List ℕ) (q : ℕ) (next : q ≡ p + length xs) (fits : q + length ys ≤ length d) where
-  head : length (take p d ++ xs) ≡ q
-  head = length-append (take p d) xs ∙ omega (arith, length-take-le p d (omega arith))
-
-  behind : drop (q + length ys) ((take p d ++ xs) ++ drop (p + length xs) d) ≡ drop (p + length (xs ++ ys)) d
-  behind =
-      ap (λ (n : ℕ). drop (n + length ys) ((take p d ++ xs) ++ drop (p + length xs) d)) (sym head)
-      ∙ drop-append-add (take p d ++ xs) (drop (p + length xs) d) (length ys)
-      ∙ drop-drop (length ys) (p + length xs) d
-      ∙ ap (λ (n : ℕ). drop n d) (let e : p + length xs + length ys ≡ p + length (xs ++ ys) = omega (arith, length-append xs ys) in e)
-
-  pub splice_more : splice (splice d p xs) q ys ≡ splice d p (xs ++ ys)
-  unfolding splice
-  splice_more =
-      ap (λ (l : List ℕ). l ++ ys ++ drop (q + length ys) ((take p d ++ xs) ++ drop (p + length xs) d)) (take_at (take p d ++ xs) (drop (p + length xs) d) q head)
-      ∙ ap (λ (l : List ℕ). (take p d ++ xs) ++ ys ++ l) behind
-      ∙ ap (λ (l : List ℕ). l ++ drop (p + length (xs ++ ys)) d) (append_assoc (take p d) xs ys)
 
 -- ---- sizes
 pub piece_length : (row start : ℕ) → length (piece_bytes row start) ≡ piece_size

@@ -6,15 +6,13 @@ ghost use Rattle.pieces.specs.InOrder.{piece_bytes, Lists, Puts};
 
 use rows::fields::function_slots;
 use rules::limits::{FUNCTION_SIZE, MOST_FUNCTIONS, PIECE_SIZE};
-use wire::put_u32;
+use wire::put_numbers;
 
 fn put_piece(out: &mut [u8], k: usize, row: u32, start: u32)
     requires { piece_size * k + piece_size ≤ length out.old }
     ensures { out.new ≡ splice out.old (piece_size * k) (piece_bytes row start) }
 {
-    let at = PIECE_SIZE * k;
-    put_u32(out, at, row);
-    put_u32(out, at + 4, start);
+    put_numbers(out, PIECE_SIZE * k, [row, start]);
 }
 
 // The first function that starts there.
@@ -25,7 +23,7 @@ fn find_start(starts: &[u16], at: u16) -> Option<usize>
 }
 
 // The root at 0, then each function that starts where the piece before it ends, up to the image's end; gives how many. At most as many follow
-// the root as table 3 has rows.
+// the root as table 3 has rows. The starts are an array of fixed size, for want of a heap: as many of them count as table 3 has rows.
 pub fn put_list(
     functions: &[u8],
     starts: &[u16; MOST_FUNCTIONS],

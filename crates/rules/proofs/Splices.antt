@@ -6,7 +6,7 @@ use Prim.Native.Nat.{ℕ, zero, suc, ◌+◌, ◌-◌, ◌≤◌, ◌<◌}
 use native.Mathlib.Omega.{arith}
 use native.Mathlib.Numerals.{add-one}
 use lib.ListN.{length, replicate, get_or, take, drop, set, length-append, length-drop, get_or-append}
-use lib.Seq.{take-nil, drop-drop, take-take, take-append-add, drop-length, length-take-le, get_or-append-add, get_or-take, get_or-drop, take_at, drop_at, sets-eq, paste, paste-suc}
+use lib.Seq.{take-nil, drop-drop, take-take, take-append-add, drop-append-add, drop-length, length-take-le, get_or-append-add, get_or-take, get_or-drop, take_at, drop_at, sets-eq, paste, paste-suc, paste-zero}
 use Rattle.rules.specs.Bytes.{splice, zero_after}
 
 -- a part's part
@@ -133,3 +133,26 @@ wiped_rest n d ys h e =
 pub one_put : (d : List ℕ) (p v : ℕ) → p < length d → set d p v ≡ splice d p (v ∷ [])
 unfolding splice
 one_put d p v h = sets-eq (v ∷ []) d p (omega arith)
+
+-- ---- a splice of nothing, and one right after another
+pub splice_nothing : (d : List ℕ) (p : ℕ) → d ≡ splice d p []
+unfolding splice
+splice_nothing d p = paste-zero d p []
+
+module _ (d : List ℕ) (p : ℕ) (xs ys : List ℕ) (q : ℕ) (next : q ≡ p + length xs) (fits : q + length ys ≤ length d) where
+  put : length (take p d ++ xs) ≡ q
+  put = length-append (take p d) xs ∙ omega (arith, length-take-le p d (omega arith))
+
+  behind : drop (q + length ys) ((take p d ++ xs) ++ drop (p + length xs) d) ≡ drop (p + length (xs ++ ys)) d
+  behind =
+      ap (λ (n : ℕ). drop (n + length ys) ((take p d ++ xs) ++ drop (p + length xs) d)) (sym put)
+      ∙ drop-append-add (take p d ++ xs) (drop (p + length xs) d) (length ys)
+      ∙ drop-drop (length ys) (p + length xs) d
+      ∙ ap (λ (n : ℕ). drop n d) (let e : p + length xs + length ys ≡ p + length (xs ++ ys) = omega (arith, length-append xs ys) in e)
+
+  pub splice_more : splice (splice d p xs) q ys ≡ splice d p (xs ++ ys)
+  unfolding splice
+  splice_more =
+      ap (λ (l : List ℕ). l ++ ys ++ drop (q + length ys) ((take p d ++ xs) ++ drop (p + length xs) d)) (take_at (take p d ++ xs) (drop (p + length xs) d) q put)
+      ∙ ap (λ (l : List ℕ). (take p d ++ xs) ++ ys ++ l) behind
+      ∙ ap (λ (l : List ℕ). l ++ drop (p + length (xs ++ ys)) d) (append_assoc (take p d) xs ys)

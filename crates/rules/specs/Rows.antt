@@ -2,6 +2,8 @@
 -- Assumes nothing.
 use Rattle.std.specs.Prelude.{Bool, true, false, cond, not, ◌&&◌, ◌||◌, List, [], ◌∷◌, ℕ, zero, suc, ◌+◌, ◌-◌, ◌*◌, ◌/◌, ◌%◌, ℤ, eqb, leb, ltb, length, take, drop}
 use Rattle.std.proofs.Math.Option.{Option, none, some}
+use Rattle.rules.specs.declared.SymbolKind as declared
+use Rattle.rules.specs.declared.SymbolKind.TheVariants as coded
 use Rattle.rules.specs.declared.Table.{Table}
 use Rattle.rules.specs.declared.Table.TheVariants.{Code, Symbols, Functions, Relocations, Maps, Instructions, FuncInfo, LineInfo}
 use Rattle.rules.specs.Link.{run}
@@ -372,6 +374,12 @@ or_none n = cond (eqb n none_number) none (some n)
 
 abbrev pub kind_of : ℕ → SymbolKind
 kind_of n = cond (eqb n other_kind) other (cond (eqb n text_kind) text section)
+
+-- as code has it
+abbrev pub kind_in : declared.SymbolKind → SymbolKind
+kind_in coded.Other = other
+kind_in coded.Text = text
+kind_in coded.Section = section
 
 abbrev pub symbol_row : List ℕ → ℕ → Symbol
 symbol_row t k = record { index = symbol_index t k; home = or_none (symbol_section t k); address = symbol_address t k; kind = kind_of (symbol_kind t k) }

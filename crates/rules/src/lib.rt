@@ -2,7 +2,7 @@
 #![tactic(auto)]
 
 ghost use Rattle.std.specs.Prelude.{◌≡◌, ◌≤◌};
-ghost use Rattle.rules.specs.Rows.{row_size, most_rows, table_number};
+ghost use Rattle.rules.specs.Rows.{row_size, most_rows, table_number, kind_of, kind_in};
 
 use crate::limits::{
     CODE_SIZE, FUNC_INFO_SIZE, FUNCTION_SIZE, INSTRUCTION_SIZE, LINE_INFO_SIZE, MAP_SIZE,
@@ -99,6 +99,27 @@ pub struct Image<'a> {
     pub line_info: &'a mut [u8],
 }
 
+// What table 2 says of a symbol, by its number.
+#[derive(Clone, Copy, PartialEq, Eq)]
+pub enum SymbolKind {
+    Other = 0,
+    Text = 1,
+    Section = 2,
+}
+
+// A checked table has no number above 2.
+impl From<u8> for SymbolKind {
+    ghost from_gives = { λ n kind. kind_in kind ≡ kind_of n };
+
+    fn from(n: u8) -> SymbolKind {
+        match n {
+            0 => SymbolKind::Other,
+            1 => SymbolKind::Text,
+            _ => SymbolKind::Section,
+        }
+    }
+}
+
 // A count of slots: eight bytes each.
 #[derive(Clone, Copy, PartialEq, Eq, PartialOrd, Ord)]
 pub struct Slot(pub u32);
@@ -106,6 +127,13 @@ pub struct Slot(pub u32);
 // A count of bytes from a section's start.
 #[derive(Clone, Copy, PartialEq, Eq, PartialOrd, Ord)]
 pub struct ByteOffset(pub u64);
+
+// A place of the source walk: a slot of a row, which may lie outside.
+#[derive(Clone, Copy, PartialEq, Eq)]
+pub struct Place {
+    pub row: usize,
+    pub slot: i64,
+}
 
 // What an opcode does to the walk.
 #[derive(Clone, Copy)]
@@ -124,55 +152,55 @@ pub enum Kind {
 #[derive(Clone, Copy)]
 pub struct Places(pub u32, pub u32, pub u32);
 
-// Why an entry refuses, in the order of the numbers, with the places that it names; those not named are 0. Document 01's are 1 to 14; names
-// are the crate's where it has the error.
+// Why an entry refuses, by the number that it answers, with the places that it names; those not named are 0. Document 01's are 1 to 14, ours
+// from 32 on; names are the crate's where it has the error.
 #[derive(Clone, Copy)]
 pub enum Cause {
     // table
-    TooManyRows,
+    TooManyRows = 1,
     // table, row
-    BrokenRow,
+    BrokenRow = 2,
     // function, slot: of this and the next six
-    UnknownSymbol,
-    InvalidRelocationOffset,
-    SectionNotFound,
-    NotWideLoad,
-    ValueOutside,
-    UnknownForm,
-    NoCode,
+    UnknownSymbol = 3,
+    InvalidRelocationOffset = 4,
+    SectionNotFound = 5,
+    NotWideLoad = 6,
+    ValueOutside = 7,
+    UnknownForm = 8,
+    NoCode = 9,
     // caller, slot
-    UnknownFunction,
+    UnknownFunction = 10,
     // function being added; a reader says 0
-    NoRoom,
+    NoRoom = 11,
     // function, record
-    LineOutside,
+    LineOutside = 12,
     // none: of this and the next
-    NoRoot,
-    BrokenInfo,
-    // 32, the caller's mistake: the list of pieces has no room. None
-    NoListRoom,
-    // What an examiner finds, from 33 on: in the image (6), its function records (7), its line records (8) or the list (9)
-    ShownTooLong,
+    NoRoot = 13,
+    BrokenInfo = 14,
+    // the caller's mistake: the list of pieces has no room. None
+    NoListRoom = 32,
+    // What an examiner finds, of this and all that follow: in the image (6), its function records (7), its line records (8) or the list (9)
+    ShownTooLong = 33,
     // in the same, after so many whole rows
-    ShownPartial,
+    ShownPartial = 34,
     // none
-    RootNotFirst,
+    RootNotFirst = 35,
     // piece, function
-    NoSuchFunction,
+    NoSuchFunction = 36,
     // piece, slot of the image where it should start
-    NotTiled,
+    NotTiled = 37,
     // pieces, slot of the image where they end
-    EndsElsewhere,
+    EndsElsewhere = 38,
     // piece, slot, slot of the image
-    SlotChanged,
+    SlotChanged = 39,
     // piece, slot, function that its source names: of this and the next
-    NotReference,
-    WrongTarget,
+    NotReference = 40,
+    WrongTarget = 41,
     // piece, record, record of the image: of this and the next
-    FuncInfoDiffers,
-    LineInfoDiffers,
+    FuncInfoDiffers = 42,
+    LineInfoDiffers = 43,
     // 7 or 8, first record that is over
-    RecordsOver,
+    RecordsOver = 44,
 }
 
 #[derive(Clone, Copy)]

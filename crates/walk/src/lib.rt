@@ -13,7 +13,7 @@ ghost use Rattle.walk.specs.Moves.{move_of, Ground, image_in, leads_in};
 ghost use Rattle.walk.specs.Steps.{arrived_at, frameless_at, Fitting, SteppedOver, RanOver, ImageWalked};
 
 use insn::kinds::{kind_of, table};
-use insn::{immediate, insn_is_call, offset, opcode};
+use insn::{immediate, insn_is_call, offset, opcode, slot_at};
 use rules::limits::{INSTRUCTION_SIZE, MOST_IMAGE_SLOTS};
 use rules::{Kind, Slot};
 
@@ -161,7 +161,7 @@ pub fn run<G: Ground>(
 pub fn ahead(slot: Slot, by: u32, d: i32) -> i64
     ensures { result ≡ pos slot.0 +ℤ (pos by +ℤ d) }
 {
-    (slot.0 as u64 + by as u64) as i64 + d as i64
+    i64::from(slot.0) + i64::from(by) + i64::from(d)
 }
 
 // The offset, widened to an immediate's size.
@@ -169,18 +169,15 @@ pub fn jump(code: &[u8], here: Slot) -> i32
     requires { slot_size * here.0 + slot_size ≤ length code.now }
     ensures { result ≡ (slot_in little code.now here.0).offset }
 {
-    offset(code, here) as i32
+    i32::from(offset(code, here))
 }
 
 // The slot at a place, of a run of so many.
 pub fn slot_in(at: i64, slots: u32) -> Option<usize>
     ensures { result ≡ found_of (within slots (λ n. n) at) }
 {
-    if at >= 0 && at < slots as i64 {
-        Some(at as usize)
-    } else {
-        None
-    }
+    let slot = usize::try_from(at).ok()?;
+    (slot < slots as usize).then_some(slot)
 }
 
 // The slot that lies at `here` of some code, as slot `slot` of its function or image; a call as an image has it.
@@ -228,7 +225,7 @@ impl Ground for ImageGround<'_> {
     ghost blank = { pos 0 };
 
     fn look(&self, at: i64) -> Option<Move<i64>> {
-        let slot = Slot(slot_in(at, self.slots)? as u32);
+        let slot = slot_at(slot_in(at, self.slots)? as u32);
         Some(leads_at(self.kinds, self.image, slot, slot))
     }
 

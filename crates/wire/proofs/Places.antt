@@ -38,10 +38,10 @@ unfolding padded
 none_put n = let e : n ≡ n - 0 = omega arith in ap (λ (k : ℕ). replicate k 0) e
 
 module _ (ps : List ℕ) (n i : ℕ) where
-  front : i ≤ length ps → length (numbers (take i ps)) ≡ 4 * i
+  pub front : i ≤ length ps → length (numbers (take i ps)) ≡ 4 * i
   front h = numbers_length (take i ps) ∙ ap (λ (k : ℕ). 4 * k) (length-take-le i ps h)
 
-  one_more : i < length ps → numbers (take (i + 1) ps) ≡ numbers (take i ps) ++ bytes4 little (get_or ps i 0)
+  pub one_more : i < length ps → numbers (take (i + 1) ps) ≡ numbers (take i ps) ++ bytes4 little (get_or ps i 0)
   one_more h =
       ap (λ (k : ℕ). numbers (take k ps)) (add-one i)
       ∙ ap numbers (take-suc ps i 0 h)

@@ -2,9 +2,9 @@
 #![tactic(auto)]
 
 ghost use Rattle.std.specs.List.{list_all};
-ghost use Rattle.std.specs.Prelude.{◌≡◌, ◌==◌, [], ◌∷◌, ◌+◌, ◌≤◌, ◌<◌, length, take, drop, replicate};
+ghost use Rattle.std.specs.Prelude.{◌≡◌, ◌==◌, [], ◌∷◌, ◌+◌, ◌*◌, ◌≤◌, ◌<◌, length, take, drop, replicate};
 ghost use Rattle.rules.specs.Bytes.{little, u16_at, u32_at, u64_at, bytes4, signed, unsigned, half16, half32, splice, zero_after};
-ghost use Rattle.rules.specs.Answers.{places_in};
+ghost use Rattle.rules.specs.Answers.{numbers, places_in};
 ghost use Rattle.rules.specs.Rows.{all_zero};
 
 // The N bytes from a place on.
@@ -118,6 +118,16 @@ fn is_zero(s: &[u8]) -> bool
     ensures { result ≡ list_all (λ b. b == 0) s.now }
 {
     s.iter().all(|b| *b == 0)
+}
+
+// One after the other.
+pub fn put_numbers<const N: usize>(out: &mut [u8], at: usize, list: [u32; N])
+    requires { at + 4 * N ≤ length out.old }
+    ensures { out.new ≡ splice out.old at (numbers list.entry) }
+{
+    for (i, n) in list.iter().enumerate() {
+        put_u32(out, at + 4 * i, *n);
+    }
 }
 
 // Those that fit whole, zero after.

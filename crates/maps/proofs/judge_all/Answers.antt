@@ -8,7 +8,7 @@ use Rattle.maps.proofs.Passes.{slots_low, judge_rows_start, judge_rows_end, judg
 use Rattle.maps.proofs.judge_all.Goals as goal
 
 pub loop-row-init : goal.loop-row-init
-loop-row-init c = judge_rows_start _
+loop-row-init c = rw c.slot_at-first.ensures (judge_rows_start _)
 
 pub returns-in_err-judge_function : goal.returns-in_err-judge_function
 returns-in_err-judge_function c =
@@ -16,14 +16,14 @@ returns-in_err-judge_function c =
     ap refusal_in (p.1 ∙ ap Err p.2)
     ∙ judge_rows_refused c.requires c.loop-row.invariant (omega (arith, c.loop-row-test.true)) _ (sym (ap refusal_in c.in_err-judge_function.was) ∙ c.judge_function.ensures)
 
-pub overflow_add-first : goal.overflow_add-first
-overflow_add-first c =
-    record { fits = omega (arith, c.loop-row.invariant.first_is, c.function_slots-slots.ensures, slots_low c.requires c.loop-row.row (omega (arith, c.loop-row-test.true))) }
+pub after-first-requires : goal.after-first-requires
+after-first-requires c =
+    omega (arith, c.loop-row.invariant.first_is, c.function_slots.ensures, slots_low c.requires c.loop-row.row (omega (arith, c.loop-row-test.true)))
 
 pub loop-row-preserved : goal.loop-row-preserved
 loop-row-preserved c =
-    judge_rows_next c.requires c.loop-row.invariant (omega (arith, c.loop-row-test.true)) _ c.function_slots-slots.ensures
-    (sym (ap refusal_in c.in_ok-judge_function.was) ∙ c.judge_function.ensures)
+    rw c.after-first.ensures (judge_rows_next c.requires c.loop-row.invariant (omega (arith, c.loop-row-test.true)) _ c.function_slots.ensures
+    (sym (ap refusal_in c.in_ok-judge_function.was) ∙ c.judge_function.ensures))
 
 pub returns : goal.returns
 returns c = judge_rows_end c.requires c.loop-row.invariant (omega (arith, c.loop-row-test.false))

@@ -12,7 +12,7 @@ loop-k-preserved c =
     let kind = c.func_info_type-kind in
     let l = c.loop-k in
     let a = c.args in
-    c.put_pair.ensures
+    c.put_numbers.ensures
     ∙ func_turn a.func_info.now a.part.funcs _ a.out.now l.out a.used.funcs l.k kind.result l.invariant kind.ensures (omega (arith, c.requires.room, c.loop-k-test.true))
 
 pub returns : goal.returns

@@ -1,10 +1,6 @@
 -- The invariant: the output holds the first k records, each moved by the same way as the first one, which goes to the start.
-use mathlib.Core.Path.{◌≡◌, sym, ap, ◌∙◌}
-use mathlib.Core.List.{List}
-use Prim.Native.Nat.{ℕ, ◌+◌, ◌*◌}
+use mathlib.Core.Path.{◌≡◌, sym, ◌∙◌}
 use native.Mathlib.Omega.{arith}
-use Rattle.rules.specs.Bytes.{splice}
-use Rattle.merge.specs.Merge.{pair_bytes}
 use Rattle.merge.proofs.Linked.{lines_none, lines_all, line_turn}
 use Rattle.merge.proofs.link_line_info.Goals as goal
 
@@ -19,17 +15,11 @@ loop-k-init c = lines_none _ _ _ _ _ _
 
 pub loop-k-preserved : goal.loop-k-preserved
 loop-k-preserved c =
-    let line = c.line_info_line-line in
-    let column = c.line_info_column in
-    let slot = c.line_info_slot in
-    let file = c.line_info_file in
     let l = c.loop-k in
     let a = c.args in
-    c.put_pair-in-loop-k.ensures
-    ∙ ap (λ (d : List ℕ). splice d (16 * (a.used.lines + l.k) + 8) (pair_bytes line.result column.result)) c.put_pair.ensures
-    ∙ line_turn a.line_info.now a.part.lines c.line_info_slot-origin.result a.used.slots a.out.now l.out a.used.lines l.k
-    slot.result file.result line.result column.result l.invariant l.auto.out slot.ensures file.ensures line.ensures column.ensures
-    (omega (arith, c.requires.0.room, c.loop-k-test.true))
+    c.put_numbers.ensures
+    ∙ line_turn a.line_info.now a.part.lines c.line_info_slot-origin.result a.used.slots a.out.now l.out a.used.lines l.k _ _ _ _ l.invariant
+    c.line_info_slot.ensures c.line_info_file-file.ensures c.line_info_line-line.ensures c.line_info_column-column.ensures (omega (arith, c.requires.0.room, c.loop-k-test.true))
 
 pub returns : goal.returns
 returns c =
