@@ -19,6 +19,7 @@ use rows::fields::{
     symbol_address, symbol_kind, symbol_section,
 };
 use rows::find::{find_map_section, find_map_symbol, find_symbol, is_code};
+// Numbers as they stand in a row's bytes, which rows reads as such.
 use rules::limits::{HAS_DATA, NONE};
 use rules::{ByteOffset, Cause, Names, Refusal, Slot, SymbolKind};
 
@@ -103,6 +104,7 @@ fn by_data(
     }))
 }
 
+// The symbol's number, section and address come from two tables and are used once each: a struct of them would be no plainer.
 fn by_map(
     maps: &[u8],
     symbol: u32,
@@ -155,6 +157,7 @@ fn by_symbol(names: Names, maps: &[u8], symbol: u32, site: Site) -> Result<Optio
 }
 
 // The row k of table 4 in the function `row`, whose first slot in table 6 is `first`. None where the relocation is not for the map step.
+// A loop has row and k as its counters and first as a running sum: a struct of them would be built at each call, to be read once.
 pub fn judge(
     names: Names,
     maps: &[u8],
