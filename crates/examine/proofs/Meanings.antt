@@ -29,7 +29,7 @@ use Rattle.resolve.specs.Means.{Means}
 use Rattle.resolve.specs.Resolves.{Resolves}
 use Rattle.resolve.proofs.Laws.{points_inside}
 use Rattle.resolve.proofs.Slots.{end_inside, insn_at}
-use Rattle.examine.specs.Compared.{Compares, Callable, Visits, call_wrong, reference_wrong, meant_wrong}
+use Rattle.examine.specs.Compared.{Callable, Visits, call_wrong, reference_wrong, meant_wrong}
 
 -- ---- what a reference may not change: opcode and destination, and the offset
 module _ (i j : Insn) where
@@ -105,12 +105,6 @@ module _ (o : Offered) (image pieces : List ℕ) (k row start : ℕ) where
       callable (Ok (Some p)) e = omega (arith, points_inside o row slot p e, few_rows Functions o.functions v.tables.functions)
       callable (Err x) e = tt
 
-      pub compares : {here at : ℕ} → here ≡ start + slot → at ≡ first + slot → Compares image here o.instructions at pieces
-      compares p q = record {
-        slots = record { first = omega (arith, v.inside); second = omega (arith, end_inside r) };
-        rise = v.rise;
-      }
-
 -- the same, where the code holds these numbers under names of its own
 module _ {o : Offered} {image pieces : List ℕ} {row start first : ℕ} (v : Visits o image pieces row start first) (k : ℕ) {n slot : ℕ} (is : slot ≡ n)
     (turn : n < function_slots o.functions row) where
@@ -125,9 +119,6 @@ module _ {o : Offered} {image pieces : List ℕ} {row start first : ℕ} (v : Vi
     callable_at = callable o image pieces k row start v n turn at_n m (means_at m means)
 
     module _ {here at : ℕ} (here_is : here ≡ start + slot) (at_is : at ≡ first + slot) where
-      pub compares_at : Compares image here o.instructions at pieces
-      compares_at = compares o image pieces k row start v n turn at_n (omega arith) (omega arith)
-
       pub judged_at : {x : Option Reply} → x ≡ meant_wrong (pieces_of pieces) k slot here (slot_in little o.instructions at) (slot_in little image here) m
           → slot_test o image pieces k row start n ≡ x
       judged_at {x} e =

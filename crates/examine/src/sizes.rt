@@ -11,7 +11,7 @@ use rules::limits::{
 };
 use rules::{Cause, Program, Refusal, Table};
 
-// The list, after the eight tables.
+// The list's number in an answer, after those of the eight tables: document 02's, and the list is no table.
 pub const LIST_NUMBER: u32 = 9;
 
 pub fn check_size(number: u32, size: usize, most: usize, t: &[u8]) -> Result<(), Refusal>

@@ -60,7 +60,7 @@ fn counts(functions: &[u8], row: usize) -> Used
     }
 }
 
-// Where a row's part begins in tables 6, 7 and 8.
+// Where a row's part begins in tables 6, 7 and 8: three sums in one pass, where tables::totals adds up one column.
 pub fn part_of(functions: &[u8], row: usize) -> Used
     requires { Sums functions.now row }
     ensures { PartBegins functions.now row result }
@@ -146,7 +146,8 @@ fn copy_rows(size: usize, table: &[u8], first: u32, count: u32, out: &mut [u8], 
     );
 }
 
-// The crate's link_func_and_line_info, a function for each kind of record: a line record has more numbers, and keeps its way from the first one.
+// The crate's link_func_and_line_info. Two loops: the new slot of a line record is another, and one generic loop would ask for a trait with
+// laws longer than both.
 fn link_func_info(func_info: &[u8], part: Used, more: Used, out: &mut [u8], used: Used)
     requires { Copyable (row_size FuncInfo) func_info.now part.funcs more.funcs out.old used.funcs }
     ensures { out.new ≡ splice
@@ -217,7 +218,7 @@ pub fn extend(
     used + more
 }
 
-// The root: its slots and its records as they stand.
+// The root: its slots and its records as they stand. Not extend at 0, which would give all function records the start as their slot.
 pub fn begin(functions: &[u8], program: Program, image: &mut Image, row: usize, part: Used) -> Used
     requires { Begins (lent_parts functions.now program) (lent_image image.old) row part }
     ensures written { Begun (lent_parts functions.now program.entry) (lent_image image.old) (lent_image image.new) row result }
