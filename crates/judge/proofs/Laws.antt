@@ -5,9 +5,9 @@ use mathlib.Core.Logic.{◌⊎◌, inl, inr, ⊎_elim}
 use mathlib.Core.Bool.{Bool, true, false, cond, ◌||◌}
 use mathlib.Core.Option.{Option, none, some}
 use mathlib.Core.List.{List}
+use native.Mathlib.Omega.{arith}
 use Prim.Native.Nat.{ℕ, ◌<◌}
 use borrow.Author.Tests.{eq-eqb, ne_eqb, ltb-true}
-use lib.Dec.{eqb}
 use lib.IntN.{ℤ, pos, negsuc, ◌+ℤ◌}
 use mir.Syntax.{w32}
 use mir.Val.{SFits}
@@ -18,10 +18,14 @@ use Rattle.std.specs.Prelude.{Ok, Err, Some, None}
 use Rattle.rules.specs.declared.Table.TheVariants.{Maps}
 use Rattle.rules.specs.Bytes.{half32}
 use Rattle.rules.specs.Answers.{Reply, reply, number_of, refused_reply}
-use Rattle.rules.specs.Tables.{other, text, section, MapRow, Tables}
+use Rattle.rules.specs.Tables.{SymbolKind, other, text, section, MapRow, Tables}
+use denote.Enum.Bare.{sameb}
+use Rattle.rules.specs.contracts.SymbolKind as kinds
+use Rattle.rules.specs.declared.SymbolKind as coded
+use Rattle.rules.specs.declared.SymbolKind.TheVariants.{Other, Text, Section}
 use Rattle.rules.specs.Maps as step
 use Rattle.rules.specs.Maps.{or_else, fits32, by_map, by_kind}
-use Rattle.rules.specs.Rows.{none_number, other_kind, text_kind, with_data, whole_rows, or_none, kind_of, symbol_section, symbol_address, symbol_kind, map_fd, map_has_data, map_row}
+use Rattle.rules.specs.Rows.{none_number, with_data, whole_rows, or_none, kind_in, kind_of, symbol_section, symbol_address, symbol_kind, map_fd, map_has_data, map_row}
 use Rattle.rules.specs.Lookups.{found_of, is_code_section, symbol_with, map_with_symbol, map_of_section, read_row}
 use Rattle.rows.proofs.Laws.{map_symbol_found, map_section_found}
 use Rattle.judge.specs.declared.Site.{Site}
@@ -88,15 +92,28 @@ module _ (maps : List ℕ) (symbol home address : ℕ) (site : Site) where
     map_says e = says_same site _ _ (λ tables. sym (found_map tables true e))
 
 -- ---- "skip if the symbol has no section; skip if the slot is a call or the section is in table 1; 5 if the kind is Text"
-not_text : (tables : Tables) (m : Option MapRow) (wide : Bool) (sum : ℤ) (n : ℕ) → (n ≡ text_kind → ⊥) → by_kind tables (kind_of n) m wide sum ≡ by_map tables m wide sum
-not_text tables m wide sum n d = ap (λ b. by_kind tables (cond (eqb n other_kind) other (cond b text section)) m wide sum) (ne_eqb n text_kind d) ∙ go (eqb n other_kind)
-  where
-    go : (b : Bool) → by_kind tables (cond b other section) m wide sum ≡ by_map tables m wide sum
-    go true = refl
-    go false = refl
+not_text : (tables : Tables) (m : Option MapRow) (wide : Bool) (sum : ℤ) (kind : SymbolKind) → (kind ≡ text → ⊥) → by_kind tables kind m wide sum ≡ by_map tables m wide sum
+not_text tables m wide sum other n = refl
+not_text tables m wide sum text n = absurd (n refl)
+not_text tables m wide sum section n = refl
 
-is_text : (n : ℕ) → n ≡ text_kind → kind_of n ≡ text
-is_text n e = ap kind_of e
+-- as code has it
+module _ (n : ℕ) (kind : coded.SymbolKind) (e : kind_in kind ≡ kind_of n) where
+  pub is_text : sameb kinds.the_type kind Text ≡ true → kind_of n ≡ text
+  is_text s = sym e ∙ go kind s
+    where
+      go : (k : coded.SymbolKind) → sameb kinds.the_type k Text ≡ true → kind_in k ≡ text
+      go Other s = let z : ◌≡◌ {A = ℕ} 0 1 = cc in absurd (omega arith)
+      go Text s = refl
+      go Section s = let z : ◌≡◌ {A = ℕ} 0 1 = cc in absurd (omega arith)
+
+  pub is_not_text : sameb kinds.the_type kind Text ≡ false → kind_of n ≡ text → ⊥
+  is_not_text s f = go kind s (e ∙ f)
+    where
+      go : (k : coded.SymbolKind) → sameb kinds.the_type k Text ≡ false → kind_in k ≡ text → ⊥
+      go Other s f = let z : ◌≡◌ {A = ℕ} 0 1 = cc in omega arith
+      go Text s f = let z : ◌≡◌ {A = ℕ} 0 1 = cc in omega arith
+      go Section s f = let z : ◌≡◌ {A = ℕ} 0 1 = cc in omega arith
 
 module _ (code symbols maps : List ℕ) (s symbol : ℕ) (site : Site) where
   pub no_section_says : symbol_section symbols s ≡ none_number → Says site (row_verdict code symbols maps s symbol site) (Ok None)
@@ -128,17 +145,17 @@ module _ (code symbols maps : List ℕ) (s symbol : ℕ) (site : Site) where
             ≡ by_kind tables (kind_of (symbol_kind symbols s)) (read_row (map_row maps) (map_found maps symbol home)) site.wide (site.imm +ℤ pos (symbol_address symbols s))
         judged tables = by_section tables false (ap (λ b. b || is_code_section code home) no_call ∙ no_code)
 
-        pub text_says : symbol_kind symbols s ≡ text_kind → (r : Verdict) → Says site (refused_for SectionNotFound) r → Says site (row_verdict code symbols maps s symbol site) r
+        pub text_says : kind_of (symbol_kind symbols s) ≡ text → (r : Verdict) → Says site (refused_for SectionNotFound) r → Says site (row_verdict code symbols maps s symbol site) r
         text_says e =
             says_same site _ _ (λ tables. sym (judged tables
-            ∙ ap (λ k. by_kind tables k (read_row (map_row maps) (map_found maps symbol home)) site.wide (site.imm +ℤ pos (symbol_address symbols s))) (is_text (symbol_kind symbols s) e)))
+            ∙ ap (λ k. by_kind tables k (read_row (map_row maps) (map_found maps symbol home)) site.wide (site.imm +ℤ pos (symbol_address symbols s))) e))
 
-        pub row_says : (symbol_kind symbols s ≡ text_kind → ⊥) → (address : ℕ) → address ≡ symbol_address symbols s → (r : Verdict)
+        pub row_says : (kind_of (symbol_kind symbols s) ≡ text → ⊥) → (address : ℕ) → address ≡ symbol_address symbols s → (r : Verdict)
             → Says site (map_verdict maps symbol home address site) r → Says site (row_verdict code symbols maps s symbol site) r
         row_says d address e =
             says_same site _ _ (λ tables.
             ap (λ a. by_map tables (read_row (map_row maps) (map_found maps symbol home)) site.wide (site.imm +ℤ pos a)) e
-            ∙ sym (judged tables ∙ not_text tables (read_row (map_row maps) (map_found maps symbol home)) site.wide (site.imm +ℤ pos (symbol_address symbols s)) (symbol_kind symbols s) d))
+            ∙ sym (judged tables ∙ not_text tables (read_row (map_row maps) (map_found maps symbol home)) site.wide (site.imm +ℤ pos (symbol_address symbols s)) (kind_of (symbol_kind symbols s)) d))
 
 -- ---- "3"
 module _ (code symbols maps : List ℕ) (symbol : ℕ) (site : Site) where
