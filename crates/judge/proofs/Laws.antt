@@ -7,10 +7,14 @@ use mathlib.Core.Option.{Option, none, some}
 use mathlib.Core.List.{List}
 use Prim.Native.Nat.{ℕ, ◌<◌}
 use borrow.Author.Tests.{eq-eqb, ne_eqb, ltb-true}
-use lib.Dec.{eqb}
 use lib.IntN.{ℤ, pos, negsuc, ◌+ℤ◌}
+use native.Mathlib.Omega.{arith}
 use mir.Syntax.{w32}
 use mir.Val.{SFits}
+use denote.Enum.Bare.{sameb}
+use Rattle.rules.specs.contracts.SymbolKind.{the_type}
+use Rattle.rules.specs.declared.SymbolKind as coded
+use Rattle.rules.specs.declared.SymbolKind.TheVariants.{Other, Text, Section}
 use Rattle.rules.specs.declared.Cause.{Cause}
 use Rattle.rules.specs.declared.Cause.TheVariants.{UnknownSymbol, SectionNotFound, NotWideLoad, ValueOutside}
 use Rattle.rules.specs.declared.Refusal.{Refusal}
@@ -18,10 +22,10 @@ use Rattle.std.specs.Prelude.{Ok, Err, Some, None}
 use Rattle.rules.specs.declared.Table.TheVariants.{Maps}
 use Rattle.rules.specs.Bytes.{half32}
 use Rattle.rules.specs.Answers.{Reply, reply, number_of, refused_reply}
-use Rattle.rules.specs.Tables.{other, text, section, MapRow, Tables}
+use Rattle.rules.specs.Tables.{SymbolKind, other, text, section, MapRow, Tables}
 use Rattle.rules.specs.Maps as step
 use Rattle.rules.specs.Maps.{or_else, fits32, by_map, by_kind}
-use Rattle.rules.specs.Rows.{none_number, other_kind, text_kind, with_data, whole_rows, or_none, kind_of, symbol_section, symbol_address, symbol_kind, map_fd, map_has_data, map_row}
+use Rattle.rules.specs.Rows.{none_number, with_data, whole_rows, or_none, kind_of, kind_in, symbol_section, symbol_address, symbol_kind, map_fd, map_has_data, map_row}
 use Rattle.rules.specs.Lookups.{found_of, is_code_section, symbol_with, map_with_symbol, map_of_section, read_row}
 use Rattle.rows.proofs.Laws.{map_symbol_found, map_section_found}
 use Rattle.judge.specs.declared.Site.{Site}
@@ -88,15 +92,15 @@ module _ (maps : List ℕ) (symbol home address : ℕ) (site : Site) where
     map_says e = says_same site _ _ (λ tables. sym (found_map tables true e))
 
 -- ---- "skip if the symbol has no section; skip if the slot is a call or the section is in table 1; 5 if the kind is Text"
-not_text : (tables : Tables) (m : Option MapRow) (wide : Bool) (sum : ℤ) (n : ℕ) → (n ≡ text_kind → ⊥) → by_kind tables (kind_of n) m wide sum ≡ by_map tables m wide sum
-not_text tables m wide sum n d = ap (λ b. by_kind tables (cond (eqb n other_kind) other (cond b text section)) m wide sum) (ne_eqb n text_kind d) ∙ go (eqb n other_kind)
-  where
-    go : (b : Bool) → by_kind tables (cond b other section) m wide sum ≡ by_map tables m wide sum
-    go true = refl
-    go false = refl
+not_text : (tables : Tables) (m : Option MapRow) (wide : Bool) (sum : ℤ) (kind : SymbolKind) → (kind ≡ text → ⊥) → by_kind tables kind m wide sum ≡ by_map tables m wide sum
+not_text tables m wide sum other d = refl
+not_text tables m wide sum text d = absurd (d refl)
+not_text tables m wide sum section d = refl
 
-is_text : (n : ℕ) → n ≡ text_kind → kind_of n ≡ text
-is_text n e = ap kind_of e
+pub is_text : (kind : coded.SymbolKind) → sameb the_type kind Text ≡ true → kind_in kind ≡ text
+is_text Text e = refl
+is_text Other e = let z : ◌≡◌ {A = ℕ} 0 1 = cc in absurd (omega arith)
+is_text Section e = let z : ◌≡◌ {A = ℕ} 0 1 = cc in absurd (omega arith)
 
 module _ (code symbols maps : List ℕ) (s symbol : ℕ) (site : Site) where
   pub no_section_says : symbol_section symbols s ≡ none_number → Says site (row_verdict code symbols maps s symbol site) (Ok None)
@@ -128,17 +132,17 @@ module _ (code symbols maps : List ℕ) (s symbol : ℕ) (site : Site) where
             ≡ by_kind tables (kind_of (symbol_kind symbols s)) (read_row (map_row maps) (map_found maps symbol home)) site.wide (site.imm +ℤ pos (symbol_address symbols s))
         judged tables = by_section tables false (ap (λ b. b || is_code_section code home) no_call ∙ no_code)
 
-        pub text_says : symbol_kind symbols s ≡ text_kind → (r : Verdict) → Says site (refused_for SectionNotFound) r → Says site (row_verdict code symbols maps s symbol site) r
+        pub text_says : kind_of (symbol_kind symbols s) ≡ text → (r : Verdict) → Says site (refused_for SectionNotFound) r → Says site (row_verdict code symbols maps s symbol site) r
         text_says e =
             says_same site _ _ (λ tables. sym (judged tables
-            ∙ ap (λ k. by_kind tables k (read_row (map_row maps) (map_found maps symbol home)) site.wide (site.imm +ℤ pos (symbol_address symbols s))) (is_text (symbol_kind symbols s) e)))
+            ∙ ap (λ k. by_kind tables k (read_row (map_row maps) (map_found maps symbol home)) site.wide (site.imm +ℤ pos (symbol_address symbols s))) e))
 
-        pub row_says : (symbol_kind symbols s ≡ text_kind → ⊥) → (address : ℕ) → address ≡ symbol_address symbols s → (r : Verdict)
+        pub row_says : (kind_of (symbol_kind symbols s) ≡ text → ⊥) → (address : ℕ) → address ≡ symbol_address symbols s → (r : Verdict)
             → Says site (map_verdict maps symbol home address site) r → Says site (row_verdict code symbols maps s symbol site) r
         row_says d address e =
             says_same site _ _ (λ tables.
             ap (λ a. by_map tables (read_row (map_row maps) (map_found maps symbol home)) site.wide (site.imm +ℤ pos a)) e
-            ∙ sym (judged tables ∙ not_text tables (read_row (map_row maps) (map_found maps symbol home)) site.wide (site.imm +ℤ pos (symbol_address symbols s)) (symbol_kind symbols s) d))
+            ∙ sym (judged tables ∙ not_text tables (read_row (map_row maps) (map_found maps symbol home)) site.wide (site.imm +ℤ pos (symbol_address symbols s)) (kind_of (symbol_kind symbols s)) d))
 
 -- ---- "3"
 module _ (code symbols maps : List ℕ) (symbol : ℕ) (site : Site) where

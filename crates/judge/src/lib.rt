@@ -19,8 +19,8 @@ use rows::fields::{
     symbol_address, symbol_kind, symbol_section,
 };
 use rows::find::{find_map_section, find_map_symbol, find_symbol, is_code};
-use rules::limits::{HAS_DATA, NONE, TEXT};
-use rules::{ByteOffset, Cause, Names, Refusal, Slot};
+use rules::limits::{HAS_DATA, NONE};
+use rules::{ByteOffset, Cause, Names, Refusal, Slot, SymbolKind};
 
 // How a slot is to be rewritten.
 #[derive(Clone, Copy)]
@@ -134,7 +134,7 @@ fn by_row(
     if home == NONE || site.call || is_code(names.code, home) {
         return Ok(None);
     }
-    if symbol_kind(names.symbols, s) == TEXT {
+    if SymbolKind::from(symbol_kind(names.symbols, s)) == SymbolKind::Text {
         return site.refused(Cause::SectionNotFound);
     }
     let address = symbol_address(names.symbols, s);
