@@ -12,8 +12,8 @@ use crate::fields::{
     relocation_section, symbol_index,
 };
 use crate::order::{is_before, same_place};
-use rules::limits::{CODE_SIZE, FUNCTION_SIZE, MAP_SIZE, NONE, RELOCATION_SIZE, SYMBOL_SIZE};
 use rules::ByteOffset;
+use rules::limits::{CODE_SIZE, FUNCTION_SIZE, MAP_SIZE, NONE, RELOCATION_SIZE, SYMBOL_SIZE};
 
 fn is_function(t: &[u8], k: usize, home: u32, address: i64) -> bool
     requires { row_size Functions * k + row_size Functions ≤ length t.now }
