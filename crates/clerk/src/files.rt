@@ -20,14 +20,17 @@ const ENAMETOOLONG: i32 = 36;
 
 const EILSEQ: i32 = 84;
 
+fn number_of(why: FillError) -> i32 {
+    match why {
+        FillError::TooLong => ENAMETOOLONG,
+        FillError::NotPresent => EINVAL,
+    }
+}
+
 // Argument i as the name of a file, held in `room`.
 pub fn name<'a>(rt: &impl Env, i: usize, room: &'a mut [u8]) -> io::Result<&'a str> {
-    match rt.arg(i, room) {
-        Ok(n) => match str::from_utf8(&room[..n]) {
-            Ok(name) => Ok(name),
-            Err(_) => Err(io::Error::from_raw_os_error(EILSEQ)),
-        },
-        Err(FillError::TooLong) => Err(io::Error::from_raw_os_error(ENAMETOOLONG)),
-        Err(FillError::NotPresent) => Err(io::Error::from_raw_os_error(EINVAL)),
-    }
+    let n = rt
+        .arg(i, room)
+        .map_err(|why| io::Error::from_raw_os_error(number_of(why)))?;
+    str::from_utf8(&room[..n]).map_err(|_| io::Error::from_raw_os_error(EILSEQ))
 }
