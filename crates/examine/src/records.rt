@@ -131,7 +131,7 @@ fn check_funcs(func_info: &[u8], shown: &[u8], piece: Piece, count: u32) -> Resu
     })
 }
 
-// Its line records, `count` of table 8.
+// Its line records, `count` of table 8: these move by the first one's slot, so there has to be one.
 fn check_lines(line_info: &[u8], shown: &[u8], piece: Piece, count: u32) -> Result<(), Refusal>
     requires { Lines line_info.now piece.part.lines count piece.lines piece.k piece.start.0 }
     ensures { refusal_in result
@@ -170,6 +170,7 @@ fn check_stray(functions: &[u8], line_info: &[u8], piece: Piece) -> Result<(), R
 }
 
 // The records of a piece.
+#[tactic(auto, unfolding(crate::specs::Recorded::records_wrong))]
 pub fn check_records(
     functions: &[u8],
     program: Program,
@@ -198,6 +199,7 @@ fn check_most(table: Table, t: &[u8], most: u32) -> Result<(), Refusal>
 }
 
 // So many records belong to the pieces.
+#[tactic(auto, using(crate::proofs::Same::over_parts))]
 pub fn check_over(image: Program, funcs: u32, lines: u32) -> Result<(), Refusal>
     ensures { refusal_in result ≡ over_wrong
         (tables_of little (link_offer [] [] [] [] [] [] []))

@@ -19,8 +19,9 @@ use rows::fields::{
     symbol_address, symbol_kind, symbol_section,
 };
 use rows::find::{find_map_section, find_map_symbol, find_symbol, is_code};
-use rules::limits::{HAS_DATA, NONE, TEXT};
-use rules::{ByteOffset, Cause, Names, Refusal, Slot};
+// Numbers as they stand in a row's bytes, which rows reads as such.
+use rules::limits::{HAS_DATA, NONE};
+use rules::{ByteOffset, Cause, Names, Refusal, Slot, SymbolKind};
 
 // How a slot is to be rewritten.
 #[derive(Clone, Copy)]
@@ -103,6 +104,7 @@ fn by_data(
     }))
 }
 
+// The symbol's number, section and address come from two tables and are used once each: a struct of them would be no plainer.
 fn by_map(
     maps: &[u8],
     symbol: u32,
@@ -137,7 +139,7 @@ fn by_row(
     if home == NONE || site.call || is_code(names.code, home) {
         return Ok(None);
     }
-    if symbol_kind(names.symbols, s) == TEXT {
+    if SymbolKind::from(symbol_kind(names.symbols, s)) == SymbolKind::Text {
         return site.refused(Cause::SectionNotFound);
     }
     let address = symbol_address(names.symbols, s);
@@ -155,6 +157,7 @@ fn by_symbol(names: Names, maps: &[u8], symbol: u32, site: Site) -> Result<Optio
 }
 
 // The row k of table 4 in the function `row`, whose first slot in table 6 is `first`. None where the relocation is not for the map step.
+// A loop has row and k as its counters and first as a running sum: a struct of them would be built at each call, to be read once.
 pub fn judge(
     names: Names,
     maps: &[u8],

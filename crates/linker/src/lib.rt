@@ -54,7 +54,14 @@ fn link_function(
     ensures added { Added (lent names.entry program.entry) st (lent_image image.old) row result (lent_image image.new) }
     ensures same { SameOutputs image.old image.new }
 {
-    if !has_room(names.functions, image, st.used, row) {
+    if !has_room(
+        names.functions,
+        image.slots.len(),
+        image.func_info.len(),
+        image.line_info.len(),
+        st.used,
+        row,
+    ) {
         return Err(refusal(Cause::NoRoom, row as u32, 0));
     }
     let part = part_of(names.functions, row);
@@ -148,7 +155,8 @@ pub struct Linked {
     pub starts: [u16; MOST_FUNCTIONS],
 }
 
-// Over checked tables, into outputs that are zero. A refusal leaves them to be wiped.
+// Over checked tables, into outputs that are zero. A refusal leaves them to be wiped. The outputs come as slices and not as an Image: that
+// what they hold are bytes is known of a slice that is lent, and not of one in a struct.
 fn link_checked(
     names: Names,
     program: Program,
@@ -171,7 +179,14 @@ fn link_checked(
         func_info,
         line_info,
     };
-    if !has_room(names.functions, &image, Used::default(), row) {
+    if !has_room(
+        names.functions,
+        image.slots.len(),
+        image.func_info.len(),
+        image.line_info.len(),
+        Used::default(),
+        row,
+    ) {
         return Err(refusal(Cause::NoRoom, root, 0));
     }
     let part = part_of(names.functions, row);

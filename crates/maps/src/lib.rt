@@ -48,8 +48,8 @@ fn relocations_of(names: Names, row: usize) -> Range<usize>
     start..end
 }
 
-// The two passes walk alike, in functions of their own: rewriting refuses nothing, so one walk with a closure would have it answer a Result that
-// is never an Err.
+// The two passes walk alike, each in functions of its own: rewriting refuses nothing, so one walk that takes a closure would have it answer a
+// Result that is never an Err.
 fn judge_function(
     names: Names,
     maps: &[u8],

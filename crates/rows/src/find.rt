@@ -12,8 +12,8 @@ use crate::fields::{
     relocation_section, symbol_index,
 };
 use crate::order::{is_before, same_place};
-use rules::limits::{CODE_SIZE, FUNCTION_SIZE, MAP_SIZE, NONE, RELOCATION_SIZE, SYMBOL_SIZE};
 use rules::ByteOffset;
+use rules::limits::{CODE_SIZE, FUNCTION_SIZE, MAP_SIZE, NONE, RELOCATION_SIZE, SYMBOL_SIZE};
 
 fn is_function(t: &[u8], k: usize, home: u32, address: i64) -> bool
     requires { row_size Functions * k + row_size Functions ≤ length t.now }
@@ -56,10 +56,7 @@ fn is_map_with(t: &[u8], k: usize, symbol: u32) -> bool
     ensures { result ≡ map_symbol_matches t.now symbol k }
 {
     let own = map_symbol(t, k);
-    if own == NONE {
-        return false;
-    }
-    own == symbol
+    (own != NONE) & (own == symbol)
 }
 
 fn is_map_of(t: &[u8], k: usize, home: u32) -> bool
@@ -67,70 +64,35 @@ fn is_map_of(t: &[u8], k: usize, home: u32) -> bool
     ensures { result ≡ map_section_matches t.now home k }
 {
     let own = map_symbol(t, k);
-    if map_section(t, k) != home {
-        return false;
-    }
-    own == NONE
+    (map_section(t, k) == home) & (own == NONE)
 }
 
 pub fn is_code(t: &[u8], home: u32) -> bool
     requires { Sound Code t.now }
     ensures { result ≡ is_code_section t.now home }
 {
-    let n = t.len() / CODE_SIZE;
-    let mut k = 0;
-    while k < n {
-        if code_section(t, k) == home {
-            return true;
-        }
-        k += 1;
-    }
-    false
+    (0..t.len() / CODE_SIZE).any(|k| code_section(t, k) == home)
 }
 
 pub fn find_symbol(t: &[u8], index: u32) -> Option<usize>
     requires { Sound Symbols t.now }
     ensures { result ≡ found_of (symbol_with t.now index) }
 {
-    let n = t.len() / SYMBOL_SIZE;
-    let mut k = 0;
-    while k < n {
-        if symbol_index(t, k) == index {
-            return Some(k);
-        }
-        k += 1;
-    }
-    None
+    (0..t.len() / SYMBOL_SIZE).find(|k| symbol_index(t, *k) == index)
 }
 
 pub fn find_function(t: &[u8], home: u32, address: i64) -> Option<usize>
     requires { Sound Functions t.now }
     ensures { result ≡ found_of (function_with t.now home address) }
 {
-    let n = t.len() / FUNCTION_SIZE;
-    let mut k = 0;
-    while k < n {
-        if is_function(t, k, home, address) {
-            return Some(k);
-        }
-        k += 1;
-    }
-    None
+    (0..t.len() / FUNCTION_SIZE).find(|k| is_function(t, *k, home, address))
 }
 
 pub fn find_relocation(t: &[u8], home: u32, offset: ByteOffset) -> Option<usize>
     requires { Sound Relocations t.now }
     ensures { result ≡ found_of (relocation_with t.now home offset.0) }
 {
-    let n = t.len() / RELOCATION_SIZE;
-    let mut k = 0;
-    while k < n {
-        if is_relocation(t, k, home, offset) {
-            return Some(k);
-        }
-        k += 1;
-    }
-    None
+    (0..t.len() / RELOCATION_SIZE).find(|k| is_relocation(t, *k, home, offset))
 }
 
 // How many relocations stand before (home, offset), by halving.
@@ -155,28 +117,12 @@ pub fn find_map_symbol(t: &[u8], symbol: u32) -> Option<usize>
     requires { Sound Maps t.now }
     ensures { result ≡ found_of (map_with_symbol t.now symbol) }
 {
-    let n = t.len() / MAP_SIZE;
-    let mut k = 0;
-    while k < n {
-        if is_map_with(t, k, symbol) {
-            return Some(k);
-        }
-        k += 1;
-    }
-    None
+    (0..t.len() / MAP_SIZE).find(|k| is_map_with(t, *k, symbol))
 }
 
 pub fn find_map_section(t: &[u8], home: u32) -> Option<usize>
     requires { Sound Maps t.now }
     ensures { result ≡ found_of (map_of_section t.now home) }
 {
-    let n = t.len() / MAP_SIZE;
-    let mut k = 0;
-    while k < n {
-        if is_map_of(t, k, home) {
-            return Some(k);
-        }
-        k += 1;
-    }
-    None
+    (0..t.len() / MAP_SIZE).find(|k| is_map_of(t, *k, home))
 }

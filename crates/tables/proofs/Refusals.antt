@@ -7,13 +7,11 @@ use mathlib.Core.List.{List, [], ◌∷◌}
 use Prim.Native.Nat.{ℕ, ◌*◌, ◌≤◌, ◌<◌}
 use native.Mathlib.Omega.{arith}
 use native.Mathlib.Nat.{mul-le-mul}
-use denote.Enum.Declared.{tag_of}
-use types.Run.{OneOf, miss}
 use Rattle.rules.specs.declared.Table.{Table}
 use Rattle.rules.specs.declared.Table.TheVariants.{Functions}
 use Rattle.std.specs.Prelude.{Result}
 use Rattle.rules.specs.declared.Refusal.{Refusal}
-use Rattle.std.specs.Prelude.{Ok, Err}
+use Rattle.std.specs.Prelude.{Err}
 use Rattle.rules.specs.Answers.{Reply, reply, refusal_in}
 use Rattle.rules.specs.Rows.{row_size, most_rows, whole_rows, is_partial, is_too_many, table_number, first_from, or_partial, first_broken, Offered, bytes_of, too_many, broken_in, or_broken, broken, or_else}
 use Rattle.rules.proofs.Searches.{found_passes}

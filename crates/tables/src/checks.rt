@@ -33,7 +33,12 @@ pub fn or_broken(table: Table, t: &[u8], later: Result<(), Refusal>) -> Result<(
     Err(refusal(Cause::BrokenRow, table.number(), k as u32))
 }
 
-pub fn or_wrong_total(table: Table, t: &[u8], functions: &[u8], later: Result<(), Refusal>) -> Result<(), Refusal>
+pub fn or_wrong_total(
+    table: Table,
+    t: &[u8],
+    functions: &[u8],
+    later: Result<(), Refusal>,
+) -> Result<(), Refusal>
     requires { is_too_many Functions functions.now ≡ false }
     ensures { refusal_in result ≡ or_wrong_total table t.now functions.now (refusal_in later) }
 {
@@ -53,11 +58,7 @@ pub fn or_no_root(functions: &[u8], root: u32) -> Result<(), Refusal>
     Err(refusal(Cause::NoRoot, 0, 0))
 }
 
-pub fn check_map_step(
-    names: Names,
-    maps: &[u8],
-    instructions: &[u8],
-) -> Result<(), Refusal>
+pub fn check_map_step(names: Names, maps: &[u8], instructions: &[u8]) -> Result<(), Refusal>
     ensures { refusal_in result ≡ map_step_refusal (lent_maps names.entry maps.now instructions.now) }
 {
     let few = or_too_many(Table::Instructions, instructions, Ok(()));
@@ -67,12 +68,7 @@ pub fn check_map_step(
     let few = or_too_many(Table::Symbols, names.symbols, few);
     let few = or_too_many(Table::Code, names.code, few);
     few?;
-    let whole = or_wrong_total(
-        Table::Instructions,
-        instructions,
-        names.functions,
-        Ok(()),
-    );
+    let whole = or_wrong_total(Table::Instructions, instructions, names.functions, Ok(()));
     let whole = or_broken(Table::Maps, maps, whole);
     let whole = or_broken(Table::Relocations, names.relocations, whole);
     let whole = or_broken(Table::Functions, names.functions, whole);
@@ -80,11 +76,7 @@ pub fn check_map_step(
     or_broken(Table::Code, names.code, whole)
 }
 
-pub fn check_link(
-    names: Names,
-    program: Program,
-    root: u32,
-) -> Result<(), Refusal>
+pub fn check_link(names: Names, program: Program, root: u32) -> Result<(), Refusal>
     ensures { refusal_in result ≡ link_refusal (lent names.entry program.entry) root }
 {
     let few = or_too_many(Table::LineInfo, program.line_info, Ok(()));
@@ -98,7 +90,12 @@ pub fn check_link(
     let whole = or_no_root(names.functions, root);
     let whole = or_wrong_total(Table::LineInfo, program.line_info, names.functions, whole);
     let whole = or_wrong_total(Table::FuncInfo, program.func_info, names.functions, whole);
-    let whole = or_wrong_total(Table::Instructions, program.instructions, names.functions, whole);
+    let whole = or_wrong_total(
+        Table::Instructions,
+        program.instructions,
+        names.functions,
+        whole,
+    );
     let whole = or_broken(Table::Relocations, names.relocations, whole);
     let whole = or_broken(Table::Functions, names.functions, whole);
     let whole = or_broken(Table::Symbols, names.symbols, whole);

@@ -1,32 +1,20 @@
--- The invariant: the rows that are left give the function.
-use mathlib.Core.Path.{◌≡◌, sym, ap, ◌∙◌}
-use mathlib.Core.List.{List}
-use Prim.Native.Nat.{ℕ}
-use native.Mathlib.Omega.{arith}
-use lib.IntN.{ℤ}
-use mir.Syntax.{w64}
-use mir.Val.{to_z, of_z, SFits}
-use mir.ValLaws.{to_z-of_z}
-use Rattle.rules.specs.Lookups.{found_of, function_with}
-use Rattle.rows.proofs.Scan.{scan_on, scan_hit, scan_end}
+-- The first row that passes the test of one row.
+use mathlib.Core.Path.{◌≡◌}
+use mathlib.Core.Bool.{true, false}
+use borrow.Author.Rules.{rules}
+use borrow.Author.Tests.{tests}
+use Rattle.std.proofs.lemmas.Iterator.{first_from_Range}
+use Rattle.rules.specs.declared.Table.TheVariants.{Functions}
+use Rattle.rules.specs.Rows.{whole_rows}
+use Rattle.rules.specs.Lookups.{function_with}
+use Rattle.rows.specs.Matches.{function_matches}
+use Rattle.rows.proofs.Scan.{first_is}
 use Rattle.rows.proofs.find.find_function.Goals as goal
-
--- the loop holds the address by its bits
-by_bits : (t : List ℕ) (home : ℕ) (z : ℤ) → SFits w64 z → found_of (function_with t home (to_z w64 (of_z w64 z))) ≡ found_of (function_with t home z)
-by_bits t home z f = ap (λ (y : ℤ). found_of (function_with t home y)) (to_z-of_z w64 z f)
-
-pub returns-then-is_function : goal.returns-then-is_function
-unfolding function_with
-returns-then-is_function c =
-    sym (ap found_of (scan_hit _ _ c.loop-k.k c.loop-k.invariant (omega arith) (sym c.is_function.ensures ∙ c.if-is_function.true)))
-    ∙ by_bits c.args.t.now c.args.home c.args.address c.ranges.address
-
-pub loop-k-preserved : goal.loop-k-preserved
-loop-k-preserved c =
-    scan_on _ _ c.loop-k.k c.loop-k.invariant (omega arith) (sym c.is_function.ensures ∙ c.if-is_function.false)
 
 pub returns : goal.returns
 unfolding function_with
 returns c =
-    sym (ap found_of (scan_end _ _ c.loop-k.k c.loop-k.invariant (omega arith)))
-    ∙ by_bits c.args.t.now c.args.home c.args.address c.ranges.address
+    let a = c.args in
+    let test = function_matches a.t.now a.home a.address in
+    first_is test (whole_rows Functions a.t.now) c.find.result
+    (first_from_Range _ _ _ c.find.result (λ k. true ≡ test k) (λ k. false ≡ test k) c.find.ensures.ran (λ x q k. search (rules, tests)) (λ x q k. search (rules, tests)))

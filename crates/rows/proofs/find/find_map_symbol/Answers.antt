@@ -1,19 +1,20 @@
--- The invariant: the rows that are left give the map.
-use mathlib.Core.Path.{sym, ap, ◌∙◌}
-use native.Mathlib.Omega.{arith}
-use Rattle.rules.specs.Lookups.{found_of, map_with_symbol}
-use Rattle.rows.proofs.Scan.{scan_on, scan_hit, scan_end}
+-- The first row that passes the test of one row.
+use mathlib.Core.Path.{◌≡◌}
+use mathlib.Core.Bool.{true, false}
+use borrow.Author.Rules.{rules}
+use borrow.Author.Tests.{tests}
+use Rattle.std.proofs.lemmas.Iterator.{first_from_Range}
+use Rattle.rules.specs.declared.Table.TheVariants.{Maps}
+use Rattle.rules.specs.Rows.{whole_rows}
+use Rattle.rules.specs.Lookups.{map_with_symbol}
+use Rattle.rows.specs.Matches.{map_symbol_matches}
+use Rattle.rows.proofs.Scan.{first_is}
 use Rattle.rows.proofs.find.find_map_symbol.Goals as goal
-
-pub returns-then-is_map_with : goal.returns-then-is_map_with
-unfolding map_with_symbol
-returns-then-is_map_with c =
-    sym (ap found_of (scan_hit _ _ c.loop-k.k c.loop-k.invariant (omega arith) (sym c.is_map_with.ensures ∙ c.if-is_map_with.true)))
-
-pub loop-k-preserved : goal.loop-k-preserved
-loop-k-preserved c =
-    scan_on _ _ c.loop-k.k c.loop-k.invariant (omega arith) (sym c.is_map_with.ensures ∙ c.if-is_map_with.false)
 
 pub returns : goal.returns
 unfolding map_with_symbol
-returns c = sym (ap found_of (scan_end _ _ c.loop-k.k c.loop-k.invariant (omega arith)))
+returns c =
+    let a = c.args in
+    let test = map_symbol_matches a.t.now a.symbol in
+    first_is test (whole_rows Maps a.t.now) c.find.result
+    (first_from_Range _ _ _ c.find.result (λ k. true ≡ test k) (λ k. false ≡ test k) c.find.ensures.ran (λ x q k. search (rules, tests)) (λ x q k. search (rules, tests)))
