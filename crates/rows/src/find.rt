@@ -95,7 +95,7 @@ pub fn find_relocation(t: &[u8], home: u32, offset: ByteOffset) -> Option<usize>
     (0..t.len() / RELOCATION_SIZE).find(|k| is_relocation(t, *k, home, offset))
 }
 
-// How many relocations stand before (home, offset), by halving.
+// How many relocations stand before (home, offset), by halving: rows are bytes and no slice of rows, so there is no partition_point to call.
 pub fn relocations_before(t: &[u8], home: u32, offset: ByteOffset) -> usize
     requires { Sound Relocations t.now }
     ensures { (result ≡ relocations_before t.now home offset.0) × (result ≤ whole_rows Relocations t.now) }
