@@ -21,14 +21,15 @@ use rules::{Cause, Image, Names, Places, Program, Refusal, Slot};
 use tables::checks::check_link;
 use wire::wipe;
 
-// Where each function of table 3 starts in the image, 0 if it is not placed: the root has a slot, so no callee starts at 0.
+// Where each function of table 3 starts in the image, 0 if it is not placed: the root has a slot, so no callee starts at 0. An array by
+// value in fixed memory, the form that document 01 names.
 #[derive(Clone, Copy)]
 pub struct State {
     pub starts: [u16; MOST_FUNCTIONS],
     pub used: Used,
 }
 
-// A call, or a reference, to the function that starts there.
+// A call, or a reference, to the function that starts there: the flag is `pointed_to`'s.
 fn point(image: &mut [u8], here: Slot, start: Slot, reference: bool)
     requires { (slot_size * here.0 + slot_size ≤ length image.old)
         × ((start.0 < most_image_slots) × (here.0 < most_image_slots)) }
@@ -126,6 +127,7 @@ fn relocate(
     for slot in 0..slots.0 {
         let here = slot_at(slot);
         let at = place(offset, here);
+        // nested in the visit and yielded by break, with a cursor that stays: the form that document 01 names
         let rel = loop {
             if cur == n {
                 break None;
