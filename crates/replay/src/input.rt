@@ -2,7 +2,8 @@
 ghost use Rattle.std.specs.Prelude.{◌≡◌, ◌<◌, ◌≤◌, IfOk, IsTrue, ◌↔◌, min, length};
 ghost use Rattle.replay.specs.Input.{word_at, data_in, code_of, Decodes, HasRoom, IsHeader};
 
-use clerk::reading::{Got, Read, fill, read_after, take};
+use clerk::reading::{Lack, Unread, fill, read_after, take};
+use info::RecordKind;
 use std::alloc::AllocError;
 use std::io;
 use tell::files::{TABLES, start_of};
@@ -75,22 +76,27 @@ impl From<AllocError> for Stop {
     }
 }
 
-// Of which records a reader is: struct bpf_func_info, or struct bpf_line_info.
-#[derive(Clone, Copy, Debug, PartialEq, Eq)]
-pub enum Info {
-    Func,
-    Line,
+impl From<Lack> for Stop {
+    fn from(_: Lack) -> Stop {
+        Stop::Bad
+    }
+}
+
+impl From<Unread> for Stop {
+    fn from(_: Unread) -> Stop {
+        Stop::Bad
+    }
 }
 
 // What a case runs.
-#[derive(Clone, Copy, Debug, PartialEq, Eq)]
+#[derive(Clone, Copy, PartialEq, Eq)]
 pub enum Kind {
     Link,
     MapStep,
     // all records, one after the other
-    Records(Info),
+    Records(RecordKind),
     // one of them
-    Record(Info),
+    Record(RecordKind),
 }
 
 // A number that is no kind's.
@@ -106,10 +112,10 @@ impl TryFrom<u32> for Kind {
         match n {
             1 => Ok(Kind::Link),
             2 => Ok(Kind::MapStep),
-            3 => Ok(Kind::Records(Info::Func)),
-            4 => Ok(Kind::Records(Info::Line)),
-            5 => Ok(Kind::Record(Info::Func)),
-            6 => Ok(Kind::Record(Info::Line)),
+            3 => Ok(Kind::Records(RecordKind::Functions)),
+            4 => Ok(Kind::Records(RecordKind::Lines)),
+            5 => Ok(Kind::Record(RecordKind::Functions)),
+            6 => Ok(Kind::Record(RecordKind::Lines)),
             _ => Err(UnknownKind(n)),
         }
     }
@@ -122,10 +128,10 @@ impl From<Kind> for u32 {
         match kind {
             Kind::Link => 1,
             Kind::MapStep => 2,
-            Kind::Records(Info::Func) => 3,
-            Kind::Records(Info::Line) => 4,
-            Kind::Record(Info::Func) => 5,
-            Kind::Record(Info::Line) => 6,
+            Kind::Records(RecordKind::Functions) => 3,
+            Kind::Records(RecordKind::Lines) => 4,
+            Kind::Record(RecordKind::Functions) => 5,
+            Kind::Record(RecordKind::Lines) => 6,
         }
     }
 }
@@ -214,12 +220,8 @@ pub fn read_case(
     ensures { (length file.new ≡ 120354) × (length instructions.new ≡ 65600) }
 {
     let lengths = &header.bytes[LENGTHS..];
-    let Read::Whole = read_after(input, false, lengths, file, instructions) else {
-        return Err(Stop::Bad);
-    };
+    read_after(input, false, lengths, file, instructions)?;
     let start = start_of(lengths, TABLES);
-    let Got::All = fill(input, file, start, header.word(DATA) as usize) else {
-        return Err(Stop::Bad);
-    };
+    fill(input, file, start, header.word(DATA) as usize)?;
     Ok(())
 }

@@ -9,11 +9,14 @@ mod show;
 ghost use Rattle.std.specs.Prelude.{◌≡◌, ◌<◌, IfOk, replicate};
 ghost use Rattle.replay.specs.Input.{word_at};
 
+use barkruffle::{barkruffle_read, barkruffle_record_number};
+use clerk::steps::Held;
+use info::{RecordKind, Records};
 use input::{
-    COUNT, DATA, FILE, Header, INSTRUCTIONS, Info, Kind, OUT, OUT_FUNC_INFO, OUT_LINE_INFO, PLACES,
-    ROOT, SIZE, Stop, TABLE_6, data, read_case, read_header,
+    COUNT, DATA, FILE, Header, INSTRUCTIONS, Kind, OUT, OUT_FUNC_INFO, OUT_LINE_INFO, PLACES, ROOT,
+    SIZE, Stop, TABLE_6, data, read_case, read_header,
 };
-use run::Given;
+use rules::{Image, Program};
 use show::Answer;
 use std::alloc::{AllocError, Global};
 use std::io;
@@ -30,6 +33,21 @@ fn lent(alloc: Global, header: &Header, i: usize) -> Result<Vec<u8>, AllocError>
     vec![in alloc; UNTOUCHED; header.word(i) as usize]
 }
 
+// What a case answered.
+fn answer<'a>(index: u64, header: &Header, number: u32, places: &'a [u8]) -> Answer<'a>
+    ensures index { result.index ≡ index }
+    ensures kind { result.kind ≡ header.now.kind }
+    ensures number { result.number ≡ number }
+    ensures places { result.places.now ≡ places.now }
+{
+    Answer {
+        index,
+        kind: header.kind,
+        number,
+        places,
+    }
+}
+
 // A case after its header, and the line of what it answers.
 fn run_case(
     alloc: Global,
@@ -41,72 +59,57 @@ fn run_case(
     let mut file = [0u8; FILE];
     let mut instructions = [0u8; TABLE_6];
     read_case(input, header, &mut file, &mut instructions)?;
-    let n = header.part(INSTRUCTIONS, TABLE_6);
+    let instructions = &mut instructions[..header.part(INSTRUCTIONS, TABLE_6)];
     let mut places = lent(alloc, header, PLACES)?;
-    let kind = header.kind;
-    match kind {
+    match header.kind {
         Kind::Link => {
-            let mut image = lent(alloc, header, OUT)?;
-            let mut funcs = lent(alloc, header, OUT_FUNC_INFO)?;
-            let mut lines = lent(alloc, header, OUT_LINE_INFO)?;
-            let number = run::link(
-                &file,
-                &instructions[..n],
-                header.word(ROOT),
-                &mut image,
-                &mut funcs,
-                &mut lines,
-                &mut places,
-            );
-            let answer = Answer {
-                index,
-                kind,
-                number,
-                places: &places,
+            let mut slots = lent(alloc, header, OUT)?;
+            let mut func_info = lent(alloc, header, OUT_FUNC_INFO)?;
+            let mut line_info = lent(alloc, header, OUT_LINE_INFO)?;
+            let mut image = Image {
+                slots: &mut slots,
+                func_info: &mut func_info,
+                line_info: &mut line_info,
             };
-            show::link(out, answer, &image, &funcs, &lines)?;
+            let held = Held {
+                file: &file,
+                instructions,
+            };
+            let number = run::link(held, header.word(ROOT), &mut image, &mut places);
+            let image = Program {
+                instructions: &slots,
+                func_info: &func_info,
+                line_info: &line_info,
+            };
+            show::link(out, answer(index, header, number, &places), image)?;
         }
         Kind::MapStep => {
-            let number = run::map_step(&file, &mut instructions[..n], &mut places);
-            let answer = Answer {
-                index,
-                kind,
-                number,
-                places: &places,
-            };
-            show::output(out, answer, &instructions[..n])?;
+            let number = run::map_step(&file, instructions, &mut places);
+            show::output(out, answer(index, header, number, &places), instructions)?;
         }
-        Kind::Records(info) => {
-            let mut records = lent(alloc, header, OUT)?;
-            let number = given(header, info, &file).all(&mut records, &mut places);
-            let answer = Answer {
-                index,
-                kind,
-                number,
-                places: &places,
-            };
-            show::output(out, answer, &records)?;
+        Kind::Records(kind) => {
+            let mut rows = lent(alloc, header, OUT)?;
+            let number = barkruffle_read(records(header, kind, &file), &mut rows, &mut places);
+            show::output(out, answer(index, header, number, &places), &rows)?;
         }
-        Kind::Record(info) => {
+        Kind::Record(kind) => {
+            let records = records(header, kind, &file);
             let k = header.word(ROOT);
-            let given = given(header, info, &file);
-            let number = given.number(k, &mut places);
-            let answer = Answer {
-                index,
-                kind,
-                number,
-                places: &places,
-            };
-            show::record(out, answer, given.record(k))?;
+            let number = barkruffle_record_number(records, k, &mut places);
+            show::record(
+                out,
+                answer(index, header, number, &places),
+                records.record(k),
+            )?;
         }
     }
     Ok(())
 }
 
 // What a reader is given.
-fn given<'a>(header: &Header, info: Info, file: &'a [u8; FILE]) -> Given<'a> {
-    Given {
-        info,
+fn records<'a>(header: &Header, kind: RecordKind, file: &'a [u8; FILE]) -> Records<'a> {
+    Records {
+        kind,
         size: header.word(SIZE),
         count: header.word(COUNT),
         bytes: data(file, header.word(DATA) as usize),
