@@ -4,7 +4,6 @@ ghost use Rattle.replay.specs.Input.{word_at, data_in, code_of, Decodes, HasRoom
 
 use clerk::reading::{Lack, Unread, fill, read_after, take};
 use info::RecordKind;
-use std::alloc::AllocError;
 use std::io;
 use tell::files::{TABLES, start_of};
 
@@ -44,14 +43,14 @@ pub const FILE: usize = 120_354;
 
 pub const TABLE_6: usize = 65_600;
 
-// What a case may ask for as outputs: the image, or what a reader writes, and records.
-const IMAGE: u32 = 33_000;
+// The room for the outputs: the image; function records; line records, or what a reader writes; place numbers.
+pub const IMAGE: usize = 33_000;
 
-const FUNCS: u32 = 2_100;
+pub const FUNCS: usize = 2_100;
 
-const LINES: u32 = 66_000;
+pub const LINES: usize = 66_000;
 
-const PLACE_BYTES: u32 = 16;
+pub const PLACE_BYTES: usize = 16;
 
 // Why a run of cases ends.
 #[derive(Clone, Copy, Debug)]
@@ -60,19 +59,13 @@ pub enum Stop {
     Ended,
     // what is there is no case, is cut short, or does not fit
     Bad,
-    // no line could be written, or no buffer had
+    // a line could not be written
     Failed(io::Error),
 }
 
 impl From<io::Error> for Stop {
     fn from(why: io::Error) -> Stop {
         Stop::Failed(why)
-    }
-}
-
-impl From<AllocError> for Stop {
-    fn from(why: AllocError) -> Stop {
-        Stop::Failed(io::Error::from(why))
     }
 }
 
@@ -168,10 +161,10 @@ impl Header {
         } else {
             LINES
         };
-        self.word(OUT) <= most
-            && self.word(OUT_FUNC_INFO) <= FUNCS
-            && self.word(OUT_LINE_INFO) <= LINES
-            && self.word(PLACES) <= PLACE_BYTES
+        self.word(OUT) as usize <= most
+            && self.word(OUT_FUNC_INFO) as usize <= FUNCS
+            && self.word(OUT_LINE_INFO) as usize <= LINES
+            && self.word(PLACES) as usize <= PLACE_BYTES
     }
 }
 
