@@ -4,7 +4,9 @@ use mathlib.Core.Path.{◌≡◌}
 use mathlib.Core.Bool.{Bool}
 use mathlib.Core.List.{List, ◌∷◌}
 use Prim.Native.Nat.{ℕ}
-use Rattle.rules.specs.declared.Answer.{Answer}
+use Rattle.std.specs.Prelude.{Result}
+use Rattle.rules.specs.declared.Places.{Places}
+use Rattle.rules.specs.declared.Refusal.{Refusal}
 use Rattle.rules.specs.Faithful.{piece}
 use Rattle.rules.specs.Walk.{source_walk, image_walk}
 use Rattle.rules.specs.Together.{SamePlace}
@@ -21,7 +23,7 @@ use Rattle.walk.specs.Runs.{ran}
 use Rattle.walk.specs.Alike.{Alike}
 use Rattle.walk.proofs.Alike.{paths_alike}
 
-module _ (o : Offered) (root : ℕ) (b b' : Buffers) (a : Answer) (out : Outcomes b' a (link_entry little o root (lent_by b))) (are : AreBytes o.instructions) (ok : (reply_of a).number ≡ 0) where
+module _ (o : Offered) (root : ℕ) (b b' : Buffers) (a : Result Places Refusal) (out : Outcomes b' a (link_entry little o root (lent_by b))) (are : AreBytes o.instructions) (ok : (reply_of a).number ≡ 0) where
   pub linked_runs_alike : (answers : List Bool) (room given limit : ℕ)
       → Alike (SamePlace (piece root 0 ∷ (link_keeps_path o root b b' a out are ok).others)) (ran room given (source_walk (object_of (tables_of little o)) root answers) limit)
       (ran room given (image_walk (decoded little (used_image (said a b'))) answers) limit)

@@ -4,15 +4,11 @@ use Rattle.std.specs.Prelude.{◌≡◌, Bool, true, false, cond, List, [], ◌�
 use Rattle.std.specs.Borrow.{Bor}
 use Rattle.std.specs.Fmt.{decimal, digit_glyph, padded_integral, format_spec, option_append}
 use Rattle.std.specs.Option.{option_map}
-use Rattle.rules.specs.declared.Found.{Found}
-use Rattle.rules.specs.declared.Found.TheVariants.{At, Nothing}
 use Rattle.rules.specs.Bytes.{slot_size}
 use Rattle.rules.specs.Lookups.{found_of}
-use Rattle.rules.specs.Walk.{within}
+use Rattle.rules.specs.Walk.{within, SourcePlace}
 use Rattle.walk.specs.declared.Stand.{Stand}
-use Rattle.walk.specs.declared.Stand.TheVariants as image
-use Rattle.source.specs.declared.SourceStand.{SourceStand}
-use Rattle.source.specs.declared.SourceStand.TheVariants as source
+use Rattle.walk.specs.declared.Stand.TheVariants as stand
 use Rattle.paths.specs.declared.show.End.{End}
 use Rattle.paths.specs.declared.show.End.TheVariants.{Stands, Stopped, Ended, Left, NoFrame, Refused, TooLong}
 use Rattle.paths.specs.declared.show.InSource.{InSource}
@@ -27,30 +23,28 @@ abbrev pub most_shown : ℕ
 most_shown = 0xFFFF_FFFF
 
 -- the slot of a place, where a line shows it
-abbrev pub slot_shown : ℤ → Found
+abbrev pub slot_shown : ℤ → Option ℕ
 slot_shown at = found_of (within most_shown (λ n. n) at)
 
-abbrev pub source_by : Found → ℕ → ℕ → End → Place InSource
-source_by Nothing row depth end = record { at = None; end = end }
-source_by (At slot) row depth end = record { at = Some (record { row = row; slot = slot; depth = depth }); end = end }
+abbrev pub source_at : SourcePlace → ℕ → Option InSource
+source_at at depth = option_map (λ slot. record { row = at.row; slot = slot; depth = depth }) (slot_shown at.slot)
 
-abbrev pub image_by : Found → ℕ → End → Place InImage
-image_by Nothing depth end = record { at = None; end = end }
-image_by (At slot) depth end = record { at = Some (record { slot = slot; depth = depth }); end = end }
+abbrev pub image_at : ℤ → ℕ → Option InImage
+image_at at depth = option_map (λ slot. record { slot = slot; depth = depth }) (slot_shown at)
 
-abbrev pub source_shown : SourceStand → Place InSource
-source_shown (source.Standing row at depth taken) = source_by (slot_shown at) row depth Stands
-source_shown (source.Stopped row at depth) = source_by (slot_shown at) row depth Stopped
-source_shown (source.Ended row at) = source_by (slot_shown at) row 0 Ended
-source_shown source.Left = record { at = None; end = Left }
-source_shown source.NoFrame = record { at = None; end = NoFrame }
+module _ {P At : Type 0} (shown : P → ℕ → Option At) where
+  abbrev pub place_shown : Stand P → Place At
+  place_shown (stand.Standing here) = record { at = shown here.at here.depth; end = Stands }
+  place_shown (stand.Stopped at depth) = record { at = shown at depth; end = Stopped }
+  place_shown (stand.Ended at) = record { at = shown at 0; end = Ended }
+  place_shown stand.Left = record { at = None; end = Left }
+  place_shown stand.NoFrame = record { at = None; end = NoFrame }
 
-abbrev pub image_shown : Stand → Place InImage
-image_shown (image.Standing at depth taken) = image_by (slot_shown at) depth Stands
-image_shown (image.Stopped at depth) = image_by (slot_shown at) depth Stopped
-image_shown (image.Ended at) = image_by (slot_shown at) 0 Ended
-image_shown image.Left = record { at = None; end = Left }
-image_shown image.NoFrame = record { at = None; end = NoFrame }
+abbrev pub source_shown : Stand SourcePlace → Place InSource
+source_shown = place_shown source_at
+
+abbrev pub image_shown : Stand ℤ → Place InImage
+image_shown = place_shown image_at
 
 -- ---- a slot's bytes
 

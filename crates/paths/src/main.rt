@@ -6,18 +6,18 @@ mod show;
 
 ghost use Rattle.std.specs.Prelude.{◌≡◌};
 
-use clerk::reading::{Got, Read, fill, read_tables, take};
+use clerk::reading::{Lack, Unread, fill, read_tables, take};
 use clerk::steps;
-use rules::Answer;
+use clerk::steps::Held;
 use rules::limits::{INSTRUCTION_SIZE, MOST_FUNCTIONS};
-use show::{End, InImage, InSource, Line, Place, image_place, slot_bytes, source_place};
-use source::{SourceRun, slots_of, walk_source};
+use rules::{Image, Table};
+use show::{End, InImage, InSource, Line, Place, place_of, slot_bytes};
+use source::{slots_of, walk_source};
 use std::io;
 use std::io::Write;
-use tell::files;
-use tell::files::{length_of, table};
+use tell::files::{length_of, names, table};
 use tell::room::{FILE, INSTRUCTIONS};
-use walk::{ImageRun, walk_image};
+use walk::{TooLong, walk_image};
 
 // An object's name and its answers.
 const WORDS: usize = 128;
@@ -39,6 +39,18 @@ enum Stop {
 impl From<io::Error> for Stop {
     fn from(why: io::Error) -> Stop {
         Stop::Failed(why)
+    }
+}
+
+impl From<Lack> for Stop {
+    fn from(_: Lack) -> Stop {
+        Stop::Ended
+    }
+}
+
+impl From<Unread> for Stop {
+    fn from(_: Unread) -> Stop {
+        Stop::Ended
     }
 }
 
@@ -85,23 +97,17 @@ struct Object<'a> {
 impl Object<'_> {
     // The source walk after k steps.
     fn source_at(self, instructions: &[u8], k: usize) -> Place<InSource> {
-        let mut frame_rows = [0usize; FRAMES];
-        let mut frame_slots = [0i64; FRAMES];
-        let run = walk_source(
-            table(self.file, files::CODE),
-            table(self.file, files::SYMBOLS),
-            table(self.file, files::FUNCTIONS),
-            table(self.file, files::RELOCATIONS),
+        let mut frames = [rules::Place { row: 0, slot: 0 }; FRAMES];
+        match walk_source(
+            names(self.file),
             instructions,
             self.root,
-            &mut frame_rows,
-            &mut frame_slots,
+            &mut frames,
             self.answers,
             k,
-        );
-        match run {
-            SourceRun::Came(stand) => source_place(stand),
-            SourceRun::Refused(_) => Place {
+        ) {
+            Ok(stand) => place_of(stand),
+            Err(_) => Place {
                 at: None,
                 end: End::Refused,
             },
@@ -112,8 +118,8 @@ impl Object<'_> {
     fn image_at(self, image: &[u8], k: usize) -> Place<InImage> {
         let mut frames = [0i64; FRAMES];
         match walk_image(image, &mut frames, self.answers, k) {
-            ImageRun::Came(stand) => image_place(stand),
-            ImageRun::TooLong => Place {
+            Ok(stand) => place_of(stand),
+            Err(TooLong) => Place {
                 at: None,
                 end: End::TooLong,
             },
@@ -124,7 +130,7 @@ impl Object<'_> {
     fn line<'a>(self, instructions: &'a [u8], image: &'a [u8], step: usize) -> Line<'a> {
         let source = self.source_at(instructions, step);
         let linked = self.image_at(image, step);
-        let functions = table(self.file, files::FUNCTIONS);
+        let functions = table(self.file, Table::Functions);
         Line {
             step,
             source,
@@ -155,25 +161,24 @@ impl Object<'_> {
 
     // The map step, then the link, then both walks.
     fn run(self, out: &mut impl Write, instructions: &mut [u8]) -> io::Result<()> {
-        let Answer::Done(_) = steps::map_step(self.file, instructions) else {
+        let Ok(_) = steps::map_step(self.file, instructions) else {
             return writeln!(out, "the map step refuses");
         };
-        let mut image = [0u8; IMAGE];
-        let mut func_info = [0u8; 8];
-        let mut line_info = [0u8; 8];
-        let made = steps::link(
-            self.file,
+        let mut slots = [0u8; IMAGE];
+        let mut image = Image {
+            slots: &mut slots,
+            func_info: &mut [0u8; 8],
+            line_info: &mut [0u8; 8],
+        };
+        let held = Held {
+            file: self.file,
             instructions,
-            self.root,
-            &mut image,
-            &mut func_info,
-            &mut line_info,
-        );
-        let Answer::Done(counts) = made else {
+        };
+        let Ok(counts) = steps::link(held, self.root, &mut image) else {
             return writeln!(out, "the link refuses");
         };
         let used = IMAGE.min(INSTRUCTION_SIZE * counts.0 as usize);
-        self.walks(out, instructions, &image[..used])
+        self.walks(out, instructions, &slots[..used])
     }
 }
 
@@ -181,14 +186,10 @@ fn one_object(input: &mut impl io::Read, out: &mut impl Write) -> Result<(), Sto
     let header = read_header(input)?;
     let mut words = [0u8; WORDS];
     let all = header.name as usize + header.answers as usize;
-    let Got::All = fill(input, &mut words, 0, all) else {
-        return Err(Stop::Ended);
-    };
+    fill(input, &mut words, 0, all)?;
     let mut file = [0u8; FILE];
     let mut instructions = [0u8; INSTRUCTIONS];
-    let Read::Whole = read_tables(input, true, &mut file, &mut instructions) else {
-        return Err(Stop::Ended);
-    };
+    read_tables(input, true, &mut file, &mut instructions)?;
     let (name, answers) = words[..WORDS.min(all)].split_at(WORDS.min(header.name as usize));
     let object = Object {
         file: &file,
@@ -196,7 +197,7 @@ fn one_object(input: &mut impl io::Read, out: &mut impl Write) -> Result<(), Sto
         root: header.root,
         limit: header.limit,
     };
-    let n = INSTRUCTIONS.min(length_of(&file, files::INSTRUCTIONS) as usize);
+    let n = INSTRUCTIONS.min(length_of(&file, Table::Instructions) as usize);
     out.write_all(name)?;
     writeln!(out)?;
     object.run(out, &mut instructions[..n])?;

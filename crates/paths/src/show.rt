@@ -1,10 +1,8 @@
 // What a line says of the two walks.
-ghost use Rattle.std.specs.Prelude.{◌≡◌, ◌+◌, Some};
-ghost use Rattle.paths.specs.Shown.{source_shown, image_shown, SlotIn, end_text, source_text, image_text, bytes_text, where_text, line_text};
+ghost use Rattle.std.specs.Prelude.{◌≡◌, ◌+◌, ℕ, Option, Some};
+ghost use Rattle.paths.specs.Shown.{source_at, image_at, place_shown, SlotIn, end_text, source_text, image_text, bytes_text, where_text, line_text};
 
-use rules::Found;
 use rules::limits::INSTRUCTION_SIZE;
-use source::SourceStand;
 use std::fmt;
 use std::fmt::{Display, Formatter, Write};
 use walk::{Stand, slot_in};
@@ -82,48 +80,52 @@ pub struct Place<P> {
     pub end: End,
 }
 
-pub fn source_place(stand: SourceStand) -> Place<InSource>
-    ensures { result ≡ source_shown stand }
-{
-    let (row, at, depth, end) = match stand {
-        SourceStand::Standing(row, at, depth, _) => (row, at, depth, End::Stands),
-        SourceStand::Stopped(row, at, depth) => (row, at, depth, End::Stopped),
-        SourceStand::Ended(row, at) => (row, at, 0, End::Ended),
-        SourceStand::Left => return Place {
-            at: None,
-            end: End::Left,
-        },
-        SourceStand::NoFrame => return Place {
-            at: None,
-            end: End::NoFrame,
-        },
-    };
-    let at = match slot_in(at, MOST_SHOWN) {
-        Found::At(slot) => Some(InSource { row, slot, depth }),
-        Found::Nothing => None,
-    };
-    Place { at, end }
+// A place that a walk comes to, as a line shows it.
+pub trait Shown: Copy {
+    type At;
+
+    ghost shown: { Self → ℕ → Option Self.At };
+
+    // With so many frames used; nothing where no line shows its slot.
+    fn shown(self, depth: usize) -> Option<Self::At>
+        ensures { result ≡ shown self depth };
 }
 
-pub fn image_place(stand: Stand) -> Place<InImage>
-    ensures { result ≡ image_shown stand }
+impl Shown for rules::Place {
+    type At = InSource;
+
+    ghost shown = { source_at };
+
+    fn shown(self, depth: usize) -> Option<InSource> {
+        let slot = slot_in(self.slot, MOST_SHOWN)?;
+        Some(InSource {
+            row: self.row,
+            slot,
+            depth,
+        })
+    }
+}
+
+impl Shown for i64 {
+    type At = InImage;
+
+    ghost shown = { image_at };
+
+    fn shown(self, depth: usize) -> Option<InImage> {
+        let slot = slot_in(self, MOST_SHOWN)?;
+        Some(InImage { slot, depth })
+    }
+}
+
+pub fn place_of<P: Shown>(stand: Stand<P>) -> Place<P::At>
+    ensures { result ≡ place_shown P.shown stand }
 {
-    let (at, depth, end) = match stand {
-        Stand::Standing(at, depth, _) => (at, depth, End::Stands),
-        Stand::Stopped(at, depth) => (at, depth, End::Stopped),
-        Stand::Ended(at) => (at, 0, End::Ended),
-        Stand::Left => return Place {
-            at: None,
-            end: End::Left,
-        },
-        Stand::NoFrame => return Place {
-            at: None,
-            end: End::NoFrame,
-        },
-    };
-    let at = match slot_in(at, MOST_SHOWN) {
-        Found::At(slot) => Some(InImage { slot, depth }),
-        Found::Nothing => None,
+    let (at, end) = match stand {
+        Stand::Standing(here) => (here.at.shown(here.depth), End::Stands),
+        Stand::Stopped(at, depth) => (at.shown(depth), End::Stopped),
+        Stand::Ended(at) => (at.shown(0), End::Ended),
+        Stand::Left => (None, End::Left),
+        Stand::NoFrame => (None, End::NoFrame),
     };
     Place { at, end }
 }

@@ -2,12 +2,10 @@
 -- Assumes nothing.
 use Rattle.std.specs.Prelude.{Bool, true, false, List, [], ℕ, ◌+◌, ◌*◌, leb, length, take, drop}
 use Rattle.std.specs.Prelude.{◌≡◌, ◌≢◌, ◌≤◌, Result, MatchResult}
-use Rattle.rules.specs.declared.Table.{Table}
-use Rattle.rules.specs.declared.Table.TheVariants.{FuncInfo, LineInfo}
 use Rattle.rules.specs.Bytes.{little, u32_at}
 use Rattle.tell.specs.Files.{start_of}
-use Rattle.replay.specs.declared.input.Info.{Info}
-use Rattle.replay.specs.declared.input.Info.TheVariants.{Func, Line}
+use Rattle.info.specs.declared.RecordKind.{RecordKind}
+use Rattle.info.specs.declared.RecordKind.TheVariants.{Functions, Lines}
 use Rattle.replay.specs.declared.input.Kind.{Kind}
 use Rattle.replay.specs.declared.input.Kind.TheVariants.{Link, MapStep, Records, Record}
 use Rattle.replay.specs.declared.input.UnknownKind.{UnknownKind}
@@ -25,19 +23,14 @@ pick_data false a = []
 unfoldable pub data_in : List ℕ → ℕ → List ℕ
 data_in file n = pick_data (leb (start_of file 8 + n) (length file)) (take n (drop (start_of file 8) file))
 
--- the table that a reader's records are rows of
-abbrev pub info_of : Info → Table
-info_of Func = FuncInfo
-info_of Line = LineInfo
-
 -- the kinds' numbers
 abbrev pub code_of : Kind → ℕ
 code_of Link = 1
 code_of MapStep = 2
-code_of (Records Func) = 3
-code_of (Records Line) = 4
-code_of (Record Func) = 5
-code_of (Record Line) = 6
+code_of (Records Functions) = 3
+code_of (Records Lines) = 4
+code_of (Record Functions) = 5
+code_of (Record Lines) = 6
 
 -- the kind that a number is, or that it is none
 abbrev pub Decodes : ℕ → Result Kind UnknownKind → Type 0

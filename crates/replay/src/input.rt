@@ -2,8 +2,8 @@
 ghost use Rattle.std.specs.Prelude.{◌≡◌, ◌<◌, ◌≤◌, IfOk, IsTrue, ◌↔◌, min, length};
 ghost use Rattle.replay.specs.Input.{word_at, data_in, code_of, Decodes, HasRoom, IsHeader};
 
-use clerk::reading::{Got, Read, fill, read_after, take};
-use std::alloc::AllocError;
+use clerk::reading::{Lack, Unread, fill, read_after, take};
+use info::RecordKind;
 use std::io;
 use tell::files::{TABLES, start_of};
 
@@ -43,14 +43,14 @@ pub const FILE: usize = 120_354;
 
 pub const TABLE_6: usize = 65_600;
 
-// What a case may ask for as outputs: the image, or what a reader writes, and records.
-const IMAGE: u32 = 33_000;
+// The room for the outputs: the image; function records; line records, or what a reader writes; place numbers.
+pub const IMAGE: usize = 33_000;
 
-const FUNCS: u32 = 2_100;
+pub const FUNCS: usize = 2_100;
 
-const LINES: u32 = 66_000;
+pub const LINES: usize = 66_000;
 
-const PLACE_BYTES: u32 = 16;
+pub const PLACE_BYTES: usize = 16;
 
 // Why a run of cases ends.
 #[derive(Clone, Copy, Debug)]
@@ -59,7 +59,7 @@ pub enum Stop {
     Ended,
     // what is there is no case, is cut short, or does not fit
     Bad,
-    // no line could be written, or no buffer had
+    // a line could not be written
     Failed(io::Error),
 }
 
@@ -69,28 +69,27 @@ impl From<io::Error> for Stop {
     }
 }
 
-impl From<AllocError> for Stop {
-    fn from(why: AllocError) -> Stop {
-        Stop::Failed(io::Error::from(why))
+impl From<Lack> for Stop {
+    fn from(_: Lack) -> Stop {
+        Stop::Bad
     }
 }
 
-// Of which records a reader is: struct bpf_func_info, or struct bpf_line_info.
-#[derive(Clone, Copy, Debug, PartialEq, Eq)]
-pub enum Info {
-    Func,
-    Line,
+impl From<Unread> for Stop {
+    fn from(_: Unread) -> Stop {
+        Stop::Bad
+    }
 }
 
 // What a case runs.
-#[derive(Clone, Copy, Debug, PartialEq, Eq)]
+#[derive(Clone, Copy, PartialEq, Eq)]
 pub enum Kind {
     Link,
     MapStep,
     // all records, one after the other
-    Records(Info),
+    Records(RecordKind),
     // one of them
-    Record(Info),
+    Record(RecordKind),
 }
 
 // A number that is no kind's.
@@ -106,10 +105,10 @@ impl TryFrom<u32> for Kind {
         match n {
             1 => Ok(Kind::Link),
             2 => Ok(Kind::MapStep),
-            3 => Ok(Kind::Records(Info::Func)),
-            4 => Ok(Kind::Records(Info::Line)),
-            5 => Ok(Kind::Record(Info::Func)),
-            6 => Ok(Kind::Record(Info::Line)),
+            3 => Ok(Kind::Records(RecordKind::Functions)),
+            4 => Ok(Kind::Records(RecordKind::Lines)),
+            5 => Ok(Kind::Record(RecordKind::Functions)),
+            6 => Ok(Kind::Record(RecordKind::Lines)),
             _ => Err(UnknownKind(n)),
         }
     }
@@ -122,10 +121,10 @@ impl From<Kind> for u32 {
         match kind {
             Kind::Link => 1,
             Kind::MapStep => 2,
-            Kind::Records(Info::Func) => 3,
-            Kind::Records(Info::Line) => 4,
-            Kind::Record(Info::Func) => 5,
-            Kind::Record(Info::Line) => 6,
+            Kind::Records(RecordKind::Functions) => 3,
+            Kind::Records(RecordKind::Lines) => 4,
+            Kind::Record(RecordKind::Functions) => 5,
+            Kind::Record(RecordKind::Lines) => 6,
         }
     }
 }
@@ -162,10 +161,10 @@ impl Header {
         } else {
             LINES
         };
-        self.word(OUT) <= most
-            && self.word(OUT_FUNC_INFO) <= FUNCS
-            && self.word(OUT_LINE_INFO) <= LINES
-            && self.word(PLACES) <= PLACE_BYTES
+        self.word(OUT) as usize <= most
+            && self.word(OUT_FUNC_INFO) as usize <= FUNCS
+            && self.word(OUT_LINE_INFO) as usize <= LINES
+            && self.word(PLACES) as usize <= PLACE_BYTES
     }
 }
 
@@ -214,12 +213,8 @@ pub fn read_case(
     ensures { (length file.new ≡ 120354) × (length instructions.new ≡ 65600) }
 {
     let lengths = &header.bytes[LENGTHS..];
-    let Read::Whole = read_after(input, false, lengths, file, instructions) else {
-        return Err(Stop::Bad);
-    };
+    read_after(input, false, lengths, file, instructions)?;
     let start = start_of(lengths, TABLES);
-    let Got::All = fill(input, file, start, header.word(DATA) as usize) else {
-        return Err(Stop::Bad);
-    };
+    fill(input, file, start, header.word(DATA) as usize)?;
     Ok(())
 }

@@ -6,122 +6,129 @@ mod input;
 mod run;
 mod show;
 
-ghost use Rattle.std.specs.Prelude.{◌≡◌, ◌<◌, IfOk, replicate};
-ghost use Rattle.replay.specs.Input.{word_at};
+ghost use Rattle.std.specs.Prelude.{◌≡◌};
 
+use barkruffle::{barkruffle_read, barkruffle_record_number};
+use clerk::steps::Held;
+use info::{RecordKind, Records};
 use input::{
-    COUNT, DATA, FILE, Header, INSTRUCTIONS, Info, Kind, OUT, OUT_FUNC_INFO, OUT_LINE_INFO, PLACES,
-    ROOT, SIZE, Stop, TABLE_6, data, read_case, read_header,
+    COUNT, DATA, FILE, FUNCS, Header, IMAGE, INSTRUCTIONS, Kind, LINES, OUT, OUT_FUNC_INFO,
+    OUT_LINE_INFO, PLACE_BYTES, PLACES, ROOT, SIZE, Stop, TABLE_6, data, read_case, read_header,
 };
-use run::Given;
+use rules::{Image, Program};
 use show::Answer;
-use std::alloc::{AllocError, Global};
 use std::io;
 use std::io::Write;
 
-// Outputs are lent with this byte throughout, which no answer leaves where it promises others.
+// Outputs are lent with this byte throughout, which no answer leaves where it promises others. They are arrays, cut to what a case asks
+// for, and no Vec: a run can't end for want of memory.
 const UNTOUCHED: u8 = 0xEE;
 
-// An output of the length that word i of a header asks for.
-fn lent(alloc: Global, header: &Header, i: usize) -> Result<Vec<u8>, AllocError>
-    requires { i < 24 }
-    ensures { IfOk result (λ output. output.items ≡ replicate (word_at header.now.bytes i) 0xEE) }
-{
-    vec![in alloc; UNTOUCHED; header.word(i) as usize]
+// A case, with its tables and data as they are held.
+#[derive(Clone, Copy)]
+struct Case<'a> {
+    index: u64,
+    header: Header,
+    file: &'a [u8; FILE],
 }
 
-// A case after its header, and the line of what it answers.
-fn run_case(
-    alloc: Global,
-    input: &mut impl io::Read,
-    out: &mut impl io::Write,
-    index: u64,
-    header: &Header,
-) -> Result<(), Stop> {
+impl<'a> Case<'a> {
+    fn answer<'b>(self, number: u32, places: &'b [u8]) -> Answer<'b>
+        ensures index { result.index ≡ self.entry.index }
+        ensures kind { result.kind ≡ self.entry.header.kind }
+        ensures number { result.number ≡ number }
+        ensures places { result.places.now ≡ places.now }
+    {
+        Answer {
+            index: self.index,
+            kind: self.header.kind,
+            number,
+            places,
+        }
+    }
+
+    fn link(self, out: &mut impl io::Write, instructions: &'a [u8]) -> io::Result<()> {
+        let Case { header, file, .. } = self;
+        let mut slots = [UNTOUCHED; IMAGE];
+        let mut func_info = [UNTOUCHED; FUNCS];
+        let mut line_info = [UNTOUCHED; LINES];
+        let mut places = [UNTOUCHED; PLACE_BYTES];
+        let n = header.part(OUT, IMAGE);
+        let m = header.part(OUT_FUNC_INFO, FUNCS);
+        let l = header.part(OUT_LINE_INFO, LINES);
+        let places = &mut places[..header.part(PLACES, PLACE_BYTES)];
+        let mut image = Image {
+            slots: &mut slots[..n],
+            func_info: &mut func_info[..m],
+            line_info: &mut line_info[..l],
+        };
+        let held = Held { file, instructions };
+        let number = run::link(held, header.word(ROOT), &mut image, places);
+        let linked = Program {
+            instructions: &slots[..n],
+            func_info: &func_info[..m],
+            line_info: &line_info[..l],
+        };
+        show::link(out, self.answer(number, places), linked)
+    }
+
+    fn map_step(self, out: &mut impl io::Write, instructions: &mut [u8]) -> io::Result<()> {
+        let mut places = [UNTOUCHED; PLACE_BYTES];
+        let places = &mut places[..self.header.part(PLACES, PLACE_BYTES)];
+        let file = self.file;
+        let number = run::map_step(file, instructions, places);
+        show::output(out, self.answer(number, places), instructions)
+    }
+
+    // What a reader is given.
+    fn records(self, kind: RecordKind) -> Records<'a> {
+        let Case { header, file, .. } = self;
+        Records {
+            kind,
+            size: header.word(SIZE),
+            count: header.word(COUNT),
+            bytes: data(file, header.word(DATA) as usize),
+        }
+    }
+
+    fn all_records(self, out: &mut impl io::Write, kind: RecordKind) -> io::Result<()> {
+        let mut rows = [UNTOUCHED; LINES];
+        let mut places = [UNTOUCHED; PLACE_BYTES];
+        let rows = &mut rows[..self.header.part(OUT, LINES)];
+        let places = &mut places[..self.header.part(PLACES, PLACE_BYTES)];
+        let number = barkruffle_read(self.records(kind), rows, places);
+        show::output(out, self.answer(number, places), rows)
+    }
+
+    fn one_record(self, out: &mut impl io::Write, kind: RecordKind) -> io::Result<()> {
+        let mut places = [UNTOUCHED; PLACE_BYTES];
+        let places = &mut places[..self.header.part(PLACES, PLACE_BYTES)];
+        let records = self.records(kind);
+        let k = self.header.word(ROOT);
+        let number = barkruffle_record_number(records, k, places);
+        show::record(out, self.answer(number, places), records.record(k))
+    }
+}
+
+// The next case, and the line of what it answers.
+fn one_case(input: &mut impl io::Read, out: &mut impl io::Write, index: u64) -> Result<(), Stop> {
+    let header = read_header(input)?;
     let mut file = [0u8; FILE];
     let mut instructions = [0u8; TABLE_6];
-    read_case(input, header, &mut file, &mut instructions)?;
-    let n = header.part(INSTRUCTIONS, TABLE_6);
-    let mut places = lent(alloc, header, PLACES)?;
-    let kind = header.kind;
-    match kind {
-        Kind::Link => {
-            let mut image = lent(alloc, header, OUT)?;
-            let mut funcs = lent(alloc, header, OUT_FUNC_INFO)?;
-            let mut lines = lent(alloc, header, OUT_LINE_INFO)?;
-            let number = run::link(
-                &file,
-                &instructions[..n],
-                header.word(ROOT),
-                &mut image,
-                &mut funcs,
-                &mut lines,
-                &mut places,
-            );
-            let answer = Answer {
-                index,
-                kind,
-                number,
-                places: &places,
-            };
-            show::link(out, answer, &image, &funcs, &lines)?;
-        }
-        Kind::MapStep => {
-            let number = run::map_step(&file, &mut instructions[..n], &mut places);
-            let answer = Answer {
-                index,
-                kind,
-                number,
-                places: &places,
-            };
-            show::output(out, answer, &instructions[..n])?;
-        }
-        Kind::Records(info) => {
-            let mut records = lent(alloc, header, OUT)?;
-            let number = given(header, info, &file).all(&mut records, &mut places);
-            let answer = Answer {
-                index,
-                kind,
-                number,
-                places: &places,
-            };
-            show::output(out, answer, &records)?;
-        }
-        Kind::Record(info) => {
-            let k = header.word(ROOT);
-            let given = given(header, info, &file);
-            let number = given.number(k, &mut places);
-            let answer = Answer {
-                index,
-                kind,
-                number,
-                places: &places,
-            };
-            show::record(out, answer, given.record(k))?;
-        }
+    read_case(input, &header, &mut file, &mut instructions)?;
+    let instructions = &mut instructions[..header.part(INSTRUCTIONS, TABLE_6)];
+    let case = Case {
+        index,
+        header,
+        file: &file,
+    };
+    match header.kind {
+        Kind::Link => case.link(out, instructions)?,
+        Kind::MapStep => case.map_step(out, instructions)?,
+        Kind::Records(kind) => case.all_records(out, kind)?,
+        Kind::Record(kind) => case.one_record(out, kind)?,
     }
     Ok(())
-}
-
-// What a reader is given.
-fn given<'a>(header: &Header, info: Info, file: &'a [u8; FILE]) -> Given<'a> {
-    Given {
-        info,
-        size: header.word(SIZE),
-        count: header.word(COUNT),
-        bytes: data(file, header.word(DATA) as usize),
-    }
-}
-
-// The next case, and its line.
-fn one_case(
-    alloc: Global,
-    input: &mut impl io::Read,
-    out: &mut impl io::Write,
-    index: u64,
-) -> Result<(), Stop> {
-    let header = read_header(input)?;
-    run_case(alloc, input, out, index, &header)
 }
 
 // A proved loop has to end, and nothing says that the input does. So the cases are counted, up to a number that no run reaches.
@@ -129,7 +136,7 @@ fn main(rt: HostRuntime) -> io::Result<()> {
     let mut input = rt.reader();
     let mut out = io::writer(&rt);
     for index in 0..u64::MAX {
-        match one_case(rt.alloc(), &mut input, &mut out, index) {
+        match one_case(&mut input, &mut out, index) {
             Ok(()) => {}
             Err(Stop::Ended) => break,
             Err(Stop::Bad) => return writeln!(out, "bad case"),

@@ -4,6 +4,7 @@ ghost use Rattle.std.specs.Io.KnownBytes.{Appends};
 ghost use Rattle.replay.specs.Shown.{checksum, hex_digits, head_of, link_line, output_line, record_line};
 
 use crate::input::Kind;
+use rules::Program;
 use std::fmt::{Display, Formatter, Write};
 use std::{fmt, io};
 
@@ -56,20 +57,14 @@ impl Display for Answer<'_> {
 }
 
 // A link, with the checksums of its three outputs.
-pub fn link<W: io::Write>(
-    out: &mut W,
-    answer: Answer<'_>,
-    image: &[u8],
-    funcs: &[u8],
-    lines: &[u8],
-) -> io::Result<()>
+pub fn link<W: io::Write>(out: &mut W, answer: Answer<'_>, image: Program) -> io::Result<()>
     ensures { OnOk result (Appends (W.contents out.old) (W.contents out.new)
-        (link_line answer.entry image.now funcs.now lines.now)) }
+        (link_line answer.entry image.entry.instructions.now image.entry.func_info.now image.entry.line_info.now)) }
 {
-    let image = checksum(image);
-    let funcs = checksum(funcs);
-    let lines = checksum(lines);
-    writeln!(out, "{answer} {image} {funcs} {lines}")
+    let slots = checksum(image.instructions);
+    let funcs = checksum(image.func_info);
+    let lines = checksum(image.line_info);
+    writeln!(out, "{answer} {slots} {funcs} {lines}")
 }
 
 // What else fills one output.
