@@ -4,5 +4,5 @@
 use std::process::ExitCode;
 
 fn main(rt: HostRuntime) -> ExitCode {
-    ExitCode::from(tool::bark_run(&rt) as u8)
+    ExitCode::from(tool::bark_run(&rt))
 }

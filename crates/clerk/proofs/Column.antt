@@ -11,7 +11,8 @@ use native.Mathlib.Decide.{dec_lt}
 use borrow.Author.Tests.{le-leb, lt-leb}
 use lib.Dec.{leb}
 use lib.ListN.{length, get_or, take}
-use Rattle.rules.specs.declared.Found.TheVariants.{At}
+use Rattle.std.specs.Prelude.{Option, Some, Result}
+use Rattle.rules.specs.declared.Refusal as told
 use Rattle.rules.specs.Bytes.{little, u32_at}
 use Rattle.rules.specs.Object.{Object}
 use Rattle.rules.specs.Faithful.{Piece, Tile}
@@ -28,11 +29,14 @@ use Rattle.rules.proofs.RowBytes.{pieces_back, pieces_length}
 use Rattle.rules.proofs.Placing.{placed_faithful}
 use Rattle.rules.proofs.Listing.{no_piece, by_pieces_entry}
 use Rattle.tell.specs.declared.listing.Source.{Source}
-use Rattle.tell.specs.declared.listing.Source.TheVariants.{Copy}
 use Rattle.tell.specs.Listing.{pick_found, last_at, source_of, source_at}
 use Rattle.tell.specs.Listing.{piece_at as lastPiece}
 use Rattle.clerk.specs.declared.steps.Made.{Made}
-use Rattle.clerk.specs.Steps.{MadeBy}
+use Rattle.clerk.specs.Steps.{made_bytes, MadeBy}
+
+-- what is shown of a piece's slot
+abbrev pub copy : Piece → ℕ → Option Source
+copy p k = Some (record { function = p.row; start = p.start; slot = k - p.start })
 
 -- ---- pieces that stand one after another
 among_at : (ps : List Piece) (i : ℕ) → i < length ps → Memᴰ (get_or ps i no_piece) ps
@@ -69,27 +73,27 @@ tile_last object (p ∷ ps) from to k t a b =
 
 -- ---- the last row that starts at or before a slot
 module _ (t : List ℕ) (k : ℕ) where
-  row_here : (n : ℕ) → piece_start t n ≤ k → last_at t piece_size 4 0 k (suc n) ≡ At n
+  row_here : (n : ℕ) → piece_start t n ≤ k → last_at t piece_size 4 0 k (suc n) ≡ Some n
   unfolding last_at piece_start
   row_here n h =
-      ap (λ (m : ℕ). pick_found (leb (u32_at little t (piece_size * m + 4)) k) (At m) (last_at t piece_size 4 0 k n)) (zero-add n)
-      ∙ ap (λ (b : Bool). pick_found b (At n) (last_at t piece_size 4 0 k n)) (le-leb (u32_at little t (piece_size * n + 4)) k h)
+      ap (λ (m : ℕ). pick_found (leb (u32_at little t (piece_size * m + 4)) k) (Some m) (last_at t piece_size 4 0 k n)) (zero-add n)
+      ∙ ap (λ (b : Bool). pick_found b (Some n) (last_at t piece_size 4 0 k n)) (le-leb (u32_at little t (piece_size * n + 4)) k h)
 
   row_before : (n : ℕ) → k < piece_start t n → last_at t piece_size 4 0 k (suc n) ≡ last_at t piece_size 4 0 k n
   unfolding last_at piece_start
   row_before n h =
-      ap (λ (m : ℕ). pick_found (leb (u32_at little t (piece_size * m + 4)) k) (At m) (last_at t piece_size 4 0 k n)) (zero-add n)
-      ∙ ap (λ (b : Bool). pick_found b (At n) (last_at t piece_size 4 0 k n)) (lt-leb (u32_at little t (piece_size * n + 4)) k h)
+      ap (λ (m : ℕ). pick_found (leb (u32_at little t (piece_size * m + 4)) k) (Some m) (last_at t piece_size 4 0 k n)) (zero-add n)
+      ∙ ap (λ (b : Bool). pick_found b (Some n) (last_at t piece_size 4 0 k n)) (lt-leb (u32_at little t (piece_size * n + 4)) k h)
 
-  row_is : (n i : ℕ) → i < n → piece_start t i ≤ k → ((j : ℕ) → i < j → j < n → k < piece_start t j) → last_at t piece_size 4 0 k n ≡ At i
+  row_is : (n i : ℕ) → i < n → piece_start t i ≤ k → ((j : ℕ) → i < j → j < n → k < piece_start t j) → last_at t piece_size 4 0 k n ≡ Some i
   row_is zero i l h past = absurd (omega arith)
   row_is (suc n) i l h past = go (dec_lt i n) (λ m. row_is n i m h (λ j a b. past j a (omega arith)))
     where
-      go : Dec (i < n) → (i < n → last_at t piece_size 4 0 k n ≡ At i) → last_at t piece_size 4 0 k (suc n) ≡ At i
+      go : Dec (i < n) → (i < n → last_at t piece_size 4 0 k n ≡ Some i) → last_at t piece_size 4 0 k (suc n) ≡ Some i
       go (yes m) later = row_before n (past n m (omega arith)) ∙ later m
       go (no m) later =
           let e : i ≡ n = omega arith in
-          row_here n (subst (λ (x : ℕ). piece_start t x ≤ k) e h) ∙ ap At (sym e)
+          row_here n (subst (λ (x : ℕ). piece_start t x ≤ k) e h) ∙ ap Some (sym e)
 
 -- ---- read from the list's bytes
 module _ (ps : List Piece) where
@@ -107,25 +111,25 @@ module _ (ps : List Piece) where
   start_is i l = ap (λ (p : Piece). p.start) (sym (piece_is i l))
 
   module _ (k i : ℕ) (inside : i < length ps) (low : (get_or ps i no_piece).start ≤ k) (past : (j : ℕ) → i < j → j < length ps → k < (get_or ps j no_piece).start) where
-    last_is : lastPiece (pieces_bytes ps) k ≡ At i
+    last_is : lastPiece (pieces_bytes ps) k ≡ Some i
     unfolding lastPiece
     last_is =
         ap (last_at (pieces_bytes ps) piece_size 4 0 k) rows_are
         ∙ row_is (pieces_bytes ps) k (length ps) i inside (subst (λ (x : ℕ). x ≤ k) (start_is i inside) low)
         (λ j a b. subst (λ (x : ℕ). k < x) (start_is j b) (past j a b))
 
-    source_is : source_at (pieces_bytes ps) k ≡ Copy (get_or ps i no_piece).row (get_or ps i no_piece).start (k - (get_or ps i no_piece).start)
+    source_is : source_at (pieces_bytes ps) k ≡ copy (get_or ps i no_piece) k
     unfolding source_at
-    source_is = ap (source_of (pieces_bytes ps) k) last_is ∙ ap (λ (p : Piece). Copy p.row p.start (k - p.start)) (piece_is i inside)
+    source_is = ap (source_of (pieces_bytes ps) k) last_is ∙ ap (λ (p : Piece). copy p k) (piece_is i inside)
 
 -- ---- what stands beside slot k is the function and the slot of the one piece that has slot k
-pub record ShownFrom (object : Object) (list : List Piece) (k : ℕ) (shown : Source) : Type 0 where
+pub record ShownFrom (object : Object) (list : List Piece) (k : ℕ) (shown : Option Source) : Type 0 where
   pub by : Piece
   pub among : Memᴰ by list
   pub low : by.start ≤ k
   pub high : k < by.start + object.slots by.row
   pub only : (q : Piece) → Memᴰ q list → q.start ≤ k → k < q.start + object.slots q.row → q ≡ by
-  pub is : shown ≡ Copy by.row by.start (k - by.start)
+  pub is : shown ≡ copy by k
 
 -- of any list that tiles
 pub column_of_tiles : (object : Object) (list : List Piece) (end k : ℕ) → Tile object 0 list end → k < end
@@ -158,7 +162,7 @@ module _ (o : Offered) (root : ℕ) (lent : Outputs) (size : ℕ) where
       (λ final l ok e z k h. column_of_tiles (object_of (tables_of little o)) _ (length final.image) k (placed_faithful (tables_of little o) (room_in lent) root final e).tiled h)
 
   -- so of the bytes that `link_pieces` leaves for the listing
-  pub column_of_made : (b : Buffers) (pieces : List ℕ) (r : Made) → MadeBy entry b pieces r → entry.link.reply.number ≡ 0 → (k : ℕ) → k < count entry.link 0
-      → ShownFrom (object_of (tables_of little o)) entry.list k (source_at (take r.bytes pieces) k)
+  pub column_of_made : (b : Buffers) (pieces : List ℕ) (r : Result Made told.Refusal) → MadeBy entry b pieces r → entry.link.reply.number ≡ 0 → (k : ℕ) → k < count entry.link 0
+      → ShownFrom (object_of (tables_of little o)) entry.list k (source_at (take (made_bytes r) pieces) k)
   column_of_made b pieces r h done k l =
       subst (λ (t : List ℕ). ShownFrom (object_of (tables_of little o)) entry.list k (source_at t k)) (sym h.list_is) (column_is_piece done k l)

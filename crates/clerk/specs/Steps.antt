@@ -1,6 +1,8 @@
 -- The steps over a held tables file: what it offers to each, and what a link with its list leaves.
 -- Assumes nothing.
-use Rattle.std.specs.Prelude.{◌≡◌, List, ℕ, take}
+use Rattle.std.specs.Prelude.{◌≡◌, Result, Ok, Err, List, ℕ, take}
+use Rattle.rules.specs.declared.Places.{Places}
+use Rattle.rules.specs.declared.Refusal as told
 use Rattle.rules.specs.Rows.{Offered, map_step_offer, link_offer}
 use Rattle.rules.specs.Entries.{PiecesResult}
 use Rattle.rules.specs.Lent.{Buffers}
@@ -20,9 +22,18 @@ held_offer file instructions = link_offer (table_in file 0) (table_in file 1) (t
 
 -- ---- the link with its list
 
+-- its answer, and the bytes of its list, none where it refuses
+abbrev pub made_answer : Result Made told.Refusal → Result Places told.Refusal
+made_answer (Ok made) = Ok made.places
+made_answer (Err why) = Err why
+
+abbrev pub made_bytes : Result Made told.Refusal → ℕ
+made_bytes (Ok made) = made.bytes
+made_bytes (Err why) = 0
+
 -- the reply and all four outputs; the bytes counted in the last of them are the list and nothing else
-pub record MadeBy (result : PiecesResult) (b : Buffers) (pieces : List ℕ) (r : Made) : Type 0 where
-  pub outcomes : Outcomes b r.answer result.link
+pub record MadeBy (result : PiecesResult) (b : Buffers) (pieces : List ℕ) (r : Result Made told.Refusal) : Type 0 where
+  pub outcomes : Outcomes b (made_answer r) result.link
   pub pieces_are : pieces ≡ result.pieces
-  pub list_is : take r.bytes pieces ≡ pieces_bytes result.list
-  pub counts : IsPrefixLen r.bytes pieces
+  pub list_is : take (made_bytes r) pieces ≡ pieces_bytes result.list
+  pub counts : IsPrefixLen (made_bytes r) pieces

@@ -1,32 +1,25 @@
 // A line for each slot of the image, written out. The words are tell's.
 ghost use Rattle.std.specs.Prelude.{◌≡◌, true, ◌≤◌, length};
-ghost use Rattle.clerk.specs.Status.{either};
+ghost use Rattle.clerk.specs.Status.{either, status_in};
 ghost use Rattle.tell.specs.Room.{own_most};
 
-use crate::status::DONE;
+use crate::status::Stop;
 use crate::telling::{ended, say};
 use std::io;
-use tell::listing::row;
+use tell::listing::{Listing, row};
 
-fn rows(rt: &impl Print, own: usize, pieces: &[u8], image: &[u8], lines: &[u8]) -> io::Result<()>
-    requires { length image.now ≤ own_most }
+fn rows(rt: &impl Print, listing: Listing) -> io::Result<()>
+    requires { length listing.image.now ≤ own_most }
 {
-    for slot in 0..image.len() / 8 {
-        say(rt, row(own, pieces, image, lines, slot))?;
+    for slot in 0..listing.image.len() / 8 {
+        say(rt, row(listing, slot))?;
     }
     Ok(())
 }
 
-// `own` is the number of the root's line records; `pieces` is the list that the link gave.
-pub fn list(
-    rt: &(impl Print + Eprint),
-    own: usize,
-    pieces: &[u8],
-    image: &[u8],
-    lines: &[u8],
-) -> u32
-    requires { length image.now ≤ own_most }
-    ensures { (result ≤ 4) × (either 0 4 result ≡ true) }
+pub fn list(rt: &(impl Print + Eprint), listing: Listing) -> Result<(), Stop>
+    requires { length listing.image.now ≤ own_most }
+    ensures { either 0 4 (status_in result) ≡ true }
 {
-    ended(rt, rows(rt, own, pieces, image, lines), DONE)
+    ended(rt, rows(rt, listing))
 }

@@ -1,82 +1,81 @@
 // Files from a reader. A tables file: eight u32 lengths, then the tables 1 to 8, held as files.rt of tell says. An image file: three u32
 // lengths, then the three runs. A pieces file: rows, and nothing else.
-ghost use Rattle.std.specs.Prelude.{◌≡◌, true, ◌≤◌, ◌<◌, length};
+ghost use Rattle.std.specs.Prelude.{◌≡◌, true, ◌≤◌, ◌<◌, length, IfOk, Ok};
 ghost use Rattle.clerk.specs.Status.{is_end};
-ghost use Rattle.clerk.specs.Filled.{Filled, most_of, read_of};
+ghost use Rattle.clerk.specs.Filled.{Filled, most_of, unread_of};
 
+use rules::Table;
 use std::io;
-use tell::files::{INSTRUCTIONS, TABLES, length_of, start_of};
+use tell::files::{EACH, length_of, place_of, start_of};
 use tell::room::{IMAGE, IMAGE_LENGTHS, IMAGE_LINE_INFO, ROOM, SHOWN_FUNC_INFO, TABLE_LENGTHS};
 
-#[derive(Clone, Copy)]
-pub enum Got {
-    All,
-    Less,
-    Failed(io::Error),
-    NoRoom,
-}
-
-// How much of a buffer was filled.
+// How many bytes of a buffer were filled, and whether no read failed. A failed read tells its bytes too: replay's header that is cut short.
 #[derive(Clone, Copy)]
 pub struct Taken {
-    pub got: Got,
     pub bytes: usize,
+    pub read: io::Result<()>,
 }
 
-// Fills `buf`. A file that ends before and a read that fails are told apart.
+// Fills `buf`. A file that ends before and a read that fails are told apart. (std's `read_exact` tells no bytes.)
+// The loop's step is what a read gave, so it is no `for`.
 pub fn take(reader: &mut impl io::Read, buf: &mut [u8]) -> Taken
     ensures { (length buf.new ≡ length buf.old) × (result.bytes ≤ length buf.old) }
 {
-    let mut done = 0;
-    while done < buf.len() {
-        match reader.read(&mut buf[done..]) {
+    let mut bytes = 0;
+    while bytes < buf.len() {
+        match reader.read(&mut buf[bytes..]) {
             Ok(0) => {
-                return Taken {
-                    got: Got::Less,
-                    bytes: done,
-                };
+                break;
             }
             Ok(n) => {
-                done += n;
+                bytes += n;
             }
             Err(why) => {
                 return Taken {
-                    got: Got::Failed(why),
-                    bytes: done,
+                    bytes,
+                    read: Err(why),
                 };
             }
         }
     }
     Taken {
-        got: Got::All,
-        bytes: done,
+        bytes,
+        read: Ok(()),
     }
 }
 
-fn read_all(reader: &mut impl io::Read, buf: &mut [u8]) -> Got
+// Why a buffer was not filled.
+#[derive(Clone, Copy)]
+pub enum Lack {
+    Less,
+    Failed(io::Error),
+    NoRoom,
+}
+
+fn read_all(reader: &mut impl io::Read, buf: &mut [u8]) -> Result<(), Lack>
     ensures { length buf.new ≡ length buf.old }
 {
-    take(reader, buf).got
+    let taken = take(reader, buf);
+    taken.read.map_err(Lack::Failed)?;
+    if taken.bytes < buf.len() {
+        return Err(Lack::Less);
+    }
+    Ok(())
 }
 
 // The n bytes of `buf` from `at` on, where it has them.
-pub fn fill(reader: &mut impl io::Read, buf: &mut [u8], at: usize, n: usize) -> Got
+pub fn fill(reader: &mut impl io::Read, buf: &mut [u8], at: usize, n: usize) -> Result<(), Lack>
     ensures { Filled at n buf.old buf.new result }
 {
-    if at > buf.len() {
-        return Got::NoRoom;
+    if at > buf.len() || n > buf.len() - at {
+        return Err(Lack::NoRoom);
     }
-    if n > buf.len() - at {
-        return Got::NoRoom;
-    }
-    let end = at + n;
-    read_all(reader, &mut buf[at..end])
+    read_all(reader, &mut buf[at..at + n])
 }
 
-// How a file was had. The runs of an image have the numbers of their tables, 6 to 8.
+// Why a file was not had whole. The runs of an image have the numbers of their tables, 6 to 8.
 #[derive(Clone, Copy)]
-pub enum Read {
-    Whole,
+pub enum Unread {
     NoLengths,
     Failed(io::Error),
     Short(u32),
@@ -85,14 +84,13 @@ pub enum Read {
     NotClosed,
 }
 
-fn read_of(got: Got, table: u32, needs: u32, holds: u32) -> Read
-    ensures { result ≡ read_of got table needs holds }
+fn unread_of(lack: Lack, table: u32, needs: u32, holds: u32) -> Unread
+    ensures { result ≡ unread_of lack table needs holds }
 {
-    match got {
-        Got::All => Read::Whole,
-        Got::Less => Read::Short(table),
-        Got::Failed(why) => Read::Failed(why),
-        Got::NoRoom => Read::Large {
+    match lack {
+        Lack::Less => Unread::Short(table),
+        Lack::Failed(why) => Unread::Failed(why),
+        Lack::NoRoom => Unread::Large {
             table,
             needs,
             holds,
@@ -100,50 +98,56 @@ fn read_of(got: Got, table: u32, needs: u32, holds: u32) -> Read
     }
 }
 
-// The bytes that table i + 1 may have: what bark has room for, or any number.
-fn most_of(bounded: bool, i: usize) -> u32
-    requires { i < 8 }
-    ensures { result ≡ most_of bounded i }
+// The lengths that a file begins with.
+fn read_lengths(reader: &mut impl io::Read, lengths: &mut [u8]) -> Result<(), Unread>
+    ensures { length lengths.new ≡ length lengths.old }
+{
+    read_all(reader, lengths).map_err(|lack| match lack {
+        Lack::Failed(why) => Unread::Failed(why),
+        _ => Unread::NoLengths,
+    })
+}
+
+// The bytes that a table may have: what bark has room for, or any number. There is no third, so a yes or no says which.
+fn most_of(bounded: bool, table: Table) -> u32
+    ensures { result ≡ most_of bounded table }
 {
     if bounded {
         let room = ROOM;
-        return room[i];
+        room[place_of(table)]
+    } else {
+        u32::MAX
     }
-    u32::MAX
 }
 
-// Table i + 1, of at most so many bytes.
+// A table of at most so many bytes. `file` and `instructions` stay two slices here: of a struct that holds both to be written, each contract
+// would have to say too that it is given back with the same two.
 fn read_table(
     reader: &mut impl io::Read,
     most: u32,
     lengths: &[u8],
     file: &mut [u8],
     instructions: &mut [u8],
-    i: usize,
-) -> Read
-    requires { (i < 8) × (32 ≤ length lengths.now) }
+    table: Table,
+) -> Result<(), Unread>
+    requires { 32 ≤ length lengths.now }
     ensures { (length file.new ≡ length file.old)
         × (length instructions.new ≡ length instructions.old) }
 {
-    let needs = length_of(lengths, i);
-    let table = i as u32 + 1;
-    if needs > most {
-        return read_of(Got::NoRoom, table, needs, most);
-    }
-    if i == INSTRUCTIONS {
-        return read_of(
-            fill(reader, instructions, 0, needs as usize),
-            table,
-            needs,
-            most,
-        );
-    }
-    read_of(
-        fill(reader, file, start_of(lengths, i), needs as usize),
-        table,
-        needs,
-        most,
-    )
+    let needs = length_of(lengths, table);
+    let got = if needs > most {
+        Err(Lack::NoRoom)
+    } else if table == Table::Instructions {
+        fill(reader, instructions, 0, needs as usize)
+    } else {
+        fill(
+            reader,
+            file,
+            start_of(lengths, place_of(table)),
+            needs as usize,
+        )
+    };
+    got.map_err(|lack| unread_of(lack, table.number(), needs, most))
 }
 
 // The tables that stand after the lengths, which are held with them. Each has at most what bark has room for, where that is asked.
@@ -153,21 +157,23 @@ pub fn read_after(
     lengths: &[u8],
     file: &mut [u8],
     instructions: &mut [u8],
-) -> Read
+) -> Result<(), Unread>
     requires { (32 ≤ length lengths.now) × (32 ≤ length file.old) }
     ensures { (length file.new ≡ length file.old)
         × (length instructions.new ≡ length instructions.old) }
 {
-    wire::copy(file, 0, lengths, 0, TABLE_LENGTHS);
-    let mut i = 0;
-    while i < TABLES {
-        let read = read_table(reader, most_of(bounded, i), lengths, file, instructions, i);
-        let Read::Whole = read else {
-            return read;
-        };
-        i += 1;
+    file[..TABLE_LENGTHS].copy_from_slice(&lengths[..TABLE_LENGTHS]);
+    for table in EACH {
+        read_table(
+            reader,
+            most_of(bounded, table),
+            lengths,
+            file,
+            instructions,
+            table,
+        )?;
     }
-    Read::Whole
+    Ok(())
 }
 
 // All of them, with the lengths.
@@ -176,72 +182,45 @@ pub fn read_tables(
     bounded: bool,
     file: &mut [u8],
     instructions: &mut [u8],
-) -> Read
+) -> Result<(), Unread>
     ensures { (length file.new ≡ length file.old)
         × (length instructions.new ≡ length instructions.old) }
 {
     if file.len() < TABLE_LENGTHS {
-        return Read::NoLengths;
+        return Err(Unread::NoLengths);
     }
     let mut lengths = [0u8; TABLE_LENGTHS];
-    let got = read_all(reader, &mut lengths);
-    match got {
-        Got::All => {
-            return read_after(reader, bounded, &lengths, file, instructions);
-        }
-        Got::Failed(why) => {
-            return Read::Failed(why);
-        }
-        _ => {
-            return Read::NoLengths;
-        }
-    }
+    read_lengths(reader, &mut lengths)?;
+    read_after(reader, bounded, &lengths, file, instructions)
 }
 
 // Nothing stands after what was read, and the file is closed: its reader is let go, and std says nothing of how that ends. So no answer is
 // that it is not closed.
-pub fn finish<R: io::Read + Drop>(mut reader: R) -> Read
+pub fn finish<R: io::Read + Drop>(mut reader: R) -> Result<(), Unread>
     ensures { is_end result ≡ true }
 {
     let mut more = [0u8; 1];
     match reader.read(&mut more) {
-        Ok(0) => Read::Whole,
-        Ok(_) => Read::GoesOn,
-        Err(why) => Read::Failed(why),
+        Ok(0) => Ok(()),
+        Ok(_) => Err(Unread::GoesOn),
+        Err(why) => Err(Unread::Failed(why)),
     }
 }
 
 // Run i of an image, of at most so many bytes.
-fn read_run(reader: &mut impl io::Read, lengths: &[u8], i: usize, run: &mut [u8], most: u32) -> Read
+fn read_run(
+    reader: &mut impl io::Read,
+    lengths: &[u8],
+    i: usize,
+    run: &mut [u8],
+    most: u32,
+) -> Result<(), Unread>
     requires { (i < 3) × (12 ≤ length lengths.now) }
     ensures { length run.new ≡ length run.old }
 {
     let needs = wire::u32_at(lengths, 4 * i);
     let table = i as u32 + 6;
-    read_of(fill(reader, run, 0, needs as usize), table, needs, most)
-}
-
-fn read_runs(
-    reader: &mut impl io::Read,
-    lengths: &[u8],
-    image: &mut [u8],
-    func_info: &mut [u8],
-    line_info: &mut [u8],
-) -> Read
-    requires { 12 ≤ length lengths.now }
-    ensures { (length image.new ≡ length image.old)
-        × ((length func_info.new ≡ length func_info.old)
-        × (length line_info.new ≡ length line_info.old)) }
-{
-    let first = read_run(reader, lengths, 0, image, IMAGE as u32);
-    let Read::Whole = first else {
-        return first;
-    };
-    let second = read_run(reader, lengths, 1, func_info, SHOWN_FUNC_INFO as u32);
-    let Read::Whole = second else {
-        return second;
-    };
-    read_run(reader, lengths, 2, line_info, IMAGE_LINE_INFO as u32)
+    fill(reader, run, 0, needs as usize).map_err(|lack| unread_of(lack, table, needs, most))
 }
 
 // All of an image file, to its end. `lengths` then has its three lengths.
@@ -251,45 +230,24 @@ pub fn read_image<R: io::Read + Drop>(
     image: &mut [u8],
     func_info: &mut [u8],
     line_info: &mut [u8],
-) -> Read
+) -> Result<(), Unread>
     ensures { (length lengths.new ≡ 12) × ((length image.new ≡ length image.old)
         × ((length func_info.new ≡ length func_info.old)
         × (length line_info.new ≡ length line_info.old))) }
 {
-    let got = read_all(&mut reader, lengths);
-    if let Got::Failed(why) = got {
-        return Read::Failed(why);
-    }
-    let Got::All = got else {
-        return Read::NoLengths;
-    };
-    let read = read_runs(&mut reader, lengths, image, func_info, line_info);
-    let Read::Whole = read else {
-        return read;
-    };
+    read_lengths(&mut reader, lengths)?;
+    read_run(&mut reader, lengths, 0, image, IMAGE as u32)?;
+    read_run(&mut reader, lengths, 1, func_info, SHOWN_FUNC_INFO as u32)?;
+    read_run(&mut reader, lengths, 2, line_info, IMAGE_LINE_INFO as u32)?;
     finish(reader)
 }
 
-// How a file was had, and how many bytes of it.
-#[derive(Clone, Copy)]
-pub struct Held {
-    pub read: Read,
-    pub bytes: usize,
-}
-
-// All of a pieces file, to its end. It goes on where it is longer than `pieces`.
-pub fn read_pieces<R: io::Read + Drop>(mut reader: R, pieces: &mut [u8]) -> Held
-    ensures { (length pieces.new ≡ length pieces.old) × (result.bytes ≤ length pieces.old) }
+// All of a pieces file, to its end, and how many bytes it has. It goes on where it is longer than `pieces`.
+pub fn read_pieces<R: io::Read + Drop>(mut reader: R, pieces: &mut [u8]) -> Result<usize, Unread>
+    ensures { (length pieces.new ≡ length pieces.old) × IfOk result (λ bytes. bytes ≤ length pieces.old) }
 {
     let taken = take(&mut reader, pieces);
-    let got = taken.got;
-    let bytes = taken.bytes;
-    if let Got::Failed(why) = got {
-        return Held {
-            read: Read::Failed(why),
-            bytes,
-        };
-    }
-    let read = finish(reader);
-    Held { read, bytes }
+    taken.read.map_err(Unread::Failed)?;
+    finish(reader)?;
+    Ok(taken.bytes)
 }

@@ -1,15 +1,29 @@
-// What the process ends with.
-// The image is linked, written and listed; or the examination says yes.
-pub const DONE: u32 = 0;
+// How the process ends.
+ghost use Rattle.std.specs.Prelude.{◌≡◌, ◌≤◌};
+ghost use Rattle.clerk.specs.Status.{status_in};
 
-// A step refused the object, or the examination says no.
-pub const REFUSED: u32 = 1;
+// Why it ends before its work is done.
+#[derive(Clone, Copy, PartialEq, Eq)]
+pub enum Stop {
+    // A step refused the object, or the examination says no.
+    Refused,
+    // The arguments are none that bark takes.
+    Usage,
+    // A file to be read cannot be had whole.
+    NoInput,
+    // A file to be written, or the words, cannot be.
+    NoOutput,
+}
 
-// The arguments are none that bark takes.
-pub const USAGE: u32 = 2;
-
-// A file to be read cannot be had whole.
-pub const NO_INPUT: u32 = 3;
-
-// A file to be written, or the words, cannot be.
-pub const NO_OUTPUT: u32 = 4;
+// The exit status: 0 where the image is linked, written and listed, or the examination says yes.
+pub fn status(ended: Result<(), Stop>) -> u8
+    ensures { (result ≡ status_in ended) × (result ≤ 4) }
+{
+    match ended {
+        Ok(()) => 0,
+        Err(Stop::Refused) => 1,
+        Err(Stop::Usage) => 2,
+        Err(Stop::NoInput) => 3,
+        Err(Stop::NoOutput) => 4,
+    }
+}

@@ -1,18 +1,18 @@
 // Sentences, written out: answers on standard output, and what went wrong on standard error. The words are tell's.
-ghost use Rattle.std.specs.Prelude.{◌≡◌, true, ◌≤◌};
-ghost use Rattle.clerk.specs.Status.{either, status_of, read_status};
+ghost use Rattle.std.specs.Prelude.{◌≡◌, true};
+ghost use Rattle.clerk.specs.Status.{either, status_in, status_of, read_status};
 
-use crate::reading::Read;
-use crate::status::{DONE, NO_INPUT, NO_OUTPUT, REFUSED, USAGE};
+use crate::reading::Unread;
+use crate::status::Stop;
 use std::fmt::{Display, Formatter, Write};
 use std::{fmt, io};
-use tell::lines::spoken_line;
+use tell::lines::{Words, spoken_line};
 use tell::room::SHOWN_PIECES;
 use tell::text::{
     CANNOT_END, CANNOT_READ, END, ENDS_WITHIN, GOES_ON, IMAGE_FILE, NEEDS, NO_LENGTHS, PIECES_FILE,
     RUN_ENDS, RUN_TOO_LARGE, TABLES_FILE, TEXT, TOO_LARGE, TOO_LONG,
 };
-use tell::words::{Sentence, Told, answer, of_file, of_part};
+use tell::words::{Sentence, Told, Wording, answer, of_file, of_part};
 
 // A name, which need not be text.
 #[derive(Clone, Copy)]
@@ -70,57 +70,45 @@ fn fail(rt: &impl Eprint, what: &[u8], why: io::Error) {
 }
 
 // Standard output took the words, or it is said that it did not.
-pub(crate) fn ended(rt: &impl Eprint, written: io::Result<()>, status: u32) -> u32
-    requires { status ≤ 4 }
-    ensures { (result ≤ 4) × (either status 4 result ≡ true) }
+pub(crate) fn ended(rt: &impl Eprint, written: io::Result<()>) -> Result<(), Stop>
+    ensures { either 0 4 (status_in result) ≡ true }
 {
-    match written {
-        Ok(()) => status,
-        Err(why) => {
-            fail(rt, b"standard output", why);
-            NO_OUTPUT
-        }
+    written.map_err(|why| {
+        fail(rt, b"standard output", why);
+        Stop::NoOutput
+    })
+}
+
+fn judged(told: Told) -> Result<(), Stop>
+    ensures { status_in result ≡ status_of told }
+{
+    if told.number == 0 {
+        Ok(())
+    } else {
+        Err(Stop::Refused)
     }
 }
 
-fn status_of(told: Told) -> u32
-    ensures { (result ≡ status_of told) × (result ≤ 4) }
-{
-    if told.number == 0 {
-        return DONE;
-    }
-    REFUSED
+fn words_of(sentence: Sentence) -> Words {
+    spoken_line(TEXT.as_bytes(), &sentence.lines, &sentence.numbers)
 }
 
 // A sentence, written out by one call.
 pub(crate) fn say(rt: &impl Print, sentence: Sentence) -> io::Result<()> {
-    let words = spoken_line(&TEXT, &sentence.lines, &sentence.numbers);
-    rt.write_all(&words.bytes[..words.used])
+    rt.write_all(words_of(sentence).as_bytes())
 }
 
 // The same on standard error. What it does not take is lost.
 fn warn(rt: &impl Eprint, sentence: Sentence) {
-    let words = spoken_line(&TEXT, &sentence.lines, &sentence.numbers);
-    let _ = rt.eprint(Name(&words.bytes[..words.used]));
+    let _ = rt.eprint(Name(words_of(sentence).as_bytes()));
 }
 
-// What a step answered: `accepts` and `refuses` are the text's lines that its words begin with, `done` the one that a done step is told with.
-pub fn step(
-    rt: &(impl Print + Eprint),
-    told: Told,
-    root: u32,
-    accepts: usize,
-    refuses: usize,
-    done: usize,
-) -> u32
-    ensures { (result ≤ 4) × (either (status_of told) 4 result ≡ true) }
+// What a step answered.
+pub fn step(rt: &(impl Print + Eprint), told: Told, root: u32, wording: Wording) -> Result<(), Stop>
+    ensures { either (status_of told) 4 (status_in result) ≡ true }
 {
-    let status = status_of(told);
-    ended(
-        rt,
-        say(rt, answer(told, root, accepts, refuses, done)),
-        status,
-    )
+    ended(rt, say(rt, answer(told, root, wording)))?;
+    judged(told)
 }
 
 const USE: &str = "usage: bark link TABLES ROOT IMAGE [PIECES]
@@ -139,17 +127,17 @@ examine  says yes or no: whether an image, whoever linked it, is that function l
 status   0 done, or yes; 1 refused, or no; 2 wrong use; 3 a file cannot be read whole; 4 the output cannot be written
 ";
 
-pub fn help(rt: &(impl Print + Eprint)) -> u32
-    ensures { (result ≤ 4) × (either 0 4 result ≡ true) }
+pub fn help(rt: &(impl Print + Eprint)) -> Result<(), Stop>
+    ensures { either 0 4 (status_in result) ≡ true }
 {
-    ended(rt, rt.write_all(USE.as_bytes()), DONE)
+    ended(rt, rt.write_all(USE.as_bytes()))
 }
 
-pub fn usage(rt: &impl Eprint) -> u32
-    ensures { result ≡ 2 }
+pub fn usage(rt: &impl Eprint) -> Result<(), Stop>
+    ensures { status_in result ≡ 2 }
 {
     let _ = rt.eprint(USE);
-    USAGE
+    Err(Stop::Usage)
 }
 
 // What is wrong with a file, on standard error. The one line that has a number is that for a list that is too long: what bark holds.
@@ -165,76 +153,53 @@ pub fn failed(rt: &impl Eprint, path: &[u8], file: usize, what: usize, why: io::
 
 // The same of a file whose path is not at hand.
 pub fn nameless(rt: &impl Eprint, file: usize, what: usize, why: io::Error) {
-    if file == TABLES_FILE {
-        failed(rt, b"TABLES", file, what, why);
-        return;
-    }
-    if file == IMAGE_FILE {
-        failed(rt, b"IMAGE", file, what, why);
-        return;
-    }
-    failed(rt, b"PIECES", file, what, why);
-}
-
-fn pick(file: usize, one: usize, its: usize, another: usize) -> usize {
-    if file == one { its } else { another }
+    let path: &[u8] = match file {
+        TABLES_FILE => b"TABLES",
+        IMAGE_FILE => b"IMAGE",
+        _ => b"PIECES",
+    };
+    failed(rt, path, file, what, why);
 }
 
 // What a file that is not had whole lacks.
-pub fn read(rt: &impl Eprint, file: usize, read: Read) -> u32
-    ensures { (result ≡ read_status read) × (result ≤ 4) }
+pub fn read(rt: &impl Eprint, file: usize, read: Result<(), Unread>) -> Result<(), Stop>
+    ensures { status_in result ≡ read_status read }
 {
-    match read {
-        Read::Whole => {
-            return DONE;
+    let Err(unread) = read else {
+        return Ok(());
+    };
+    match unread {
+        Unread::NoLengths => complain(rt, file, NO_LENGTHS),
+        Unread::Failed(why) => nameless(rt, file, CANNOT_READ, why),
+        Unread::Short(table) => {
+            let ends = if file == TABLES_FILE {
+                ENDS_WITHIN
+            } else {
+                RUN_ENDS
+            };
+            warn(rt, of_part(file, ends, table, END, 0, 0));
         }
-        Read::NoLengths => {
-            complain(rt, file, NO_LENGTHS);
-            return NO_INPUT;
-        }
-        Read::Failed(why) => {
-            nameless(rt, file, CANNOT_READ, why);
-            return NO_INPUT;
-        }
-        Read::Short(table) => {
-            warn(
-                rt,
-                of_part(
-                    file,
-                    pick(file, TABLES_FILE, ENDS_WITHIN, RUN_ENDS),
-                    table,
-                    END,
-                    0,
-                    0,
-                ),
-            );
-            return NO_INPUT;
-        }
-        Read::Large {
+        Unread::Large {
             table,
             needs,
             holds,
         } => {
-            warn(
-                rt,
-                of_part(
-                    file,
-                    pick(file, TABLES_FILE, TOO_LARGE, RUN_TOO_LARGE),
-                    table,
-                    NEEDS,
-                    needs,
-                    holds,
-                ),
-            );
-            return NO_INPUT;
+            let large = if file == TABLES_FILE {
+                TOO_LARGE
+            } else {
+                RUN_TOO_LARGE
+            };
+            warn(rt, of_part(file, large, table, NEEDS, needs, holds));
         }
-        Read::GoesOn => {
-            complain(rt, file, pick(file, PIECES_FILE, TOO_LONG, GOES_ON));
-            return NO_INPUT;
+        Unread::GoesOn => {
+            let long = if file == PIECES_FILE {
+                TOO_LONG
+            } else {
+                GOES_ON
+            };
+            complain(rt, file, long);
         }
-        Read::NotClosed => {
-            complain(rt, file, CANNOT_END);
-            return NO_INPUT;
-        }
+        Unread::NotClosed => complain(rt, file, CANNOT_END),
     }
+    Err(Stop::NoInput)
 }

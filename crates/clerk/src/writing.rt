@@ -1,12 +1,13 @@
 // The files that a link writes: the image, three u32 lengths and then the three runs; and the list of its pieces, its rows as they are.
 ghost use Rattle.std.specs.Prelude.{◌≡◌, true, ◌≤◌, length};
-ghost use Rattle.clerk.specs.Status.{either};
+ghost use Rattle.clerk.specs.Status.{either, status_in};
 ghost use Rattle.tell.specs.Room.{own_most};
 
 use crate::files;
 use crate::files::name;
-use crate::status::{DONE, NO_OUTPUT};
+use crate::status::Stop;
 use crate::telling::{failed, nameless};
+use rules::Program;
 use std::env::Env;
 use std::fs::{File, Files, OpenFile};
 use std::io;
@@ -17,14 +18,14 @@ use tell::text::{
     CANNOT_CLOSE, CANNOT_CREATE, CANNOT_WRITE, IMAGE_FILE, NO_OUTPUT_NAME, PIECES_FILE,
 };
 
-fn put(out: &mut impl Write, image: &[u8], func_info: &[u8], line_info: &[u8]) -> io::Result<()>
-    requires { (length image.now ≤ own_most) × ((length func_info.now ≤ own_most) × (length line_info.now ≤ own_most)) }
+fn put(out: &mut impl Write, image: Program) -> io::Result<()>
+    requires { (length image.instructions.now ≤ own_most) × ((length image.func_info.now ≤ own_most) × (length image.line_info.now ≤ own_most)) }
 {
-    let lengths = image_lengths(image, func_info, line_info);
+    let lengths = image_lengths(image);
     out.write_all(&lengths)?;
-    out.write_all(image)?;
-    out.write_all(func_info)?;
-    out.write_all(line_info)
+    out.write_all(image.instructions)?;
+    out.write_all(image.func_info)?;
+    out.write_all(image.line_info)
 }
 
 // The system has what was written, for good where the file is one that it can keep so; a pipe or a terminal is none.
@@ -35,75 +36,42 @@ fn kept(out: &impl OpenFile) -> io::Result<()> {
     }
 }
 
-// The file is kept, or it is said what the system did not do. It is closed when its owner lets it go.
-fn close(
-    rt: &impl Eprint,
-    out: &impl OpenFile,
-    written: io::Result<()>,
-    path: &[u8],
+// Argument i's file is made, and filled by `put`. What does not get there whole is said; `file` is the text's line that names the file. It
+// is closed when its owner lets it go.
+fn write<R: Env + Files + Eprint, F: FnOnce(&mut R::File) -> io::Result<()>>(
+    rt: &R,
+    i: usize,
     file: usize,
-) -> u32
-    ensures { (result ≤ 4) × (either 0 4 result ≡ true) }
-{
-    if let Err(why) = written {
-        failed(rt, path, file, CANNOT_WRITE, why);
-        return NO_OUTPUT;
-    }
-    if let Err(why) = kept(out) {
-        failed(rt, path, file, CANNOT_CLOSE, why);
-        return NO_OUTPUT;
-    }
-    DONE
-}
-
-// Writes the image file. What does not get there whole is said.
-pub fn write_image(
-    rt: &(impl Env + Files + Eprint),
-    image: &[u8],
-    func_info: &[u8],
-    line_info: &[u8],
-) -> u32
-    requires { (length image.now ≤ own_most) × ((length func_info.now ≤ own_most) × (length line_info.now ≤ own_most)) }
-    ensures { (result ≤ 4) × (either 0 4 result ≡ true) }
+    put: F,
+) -> Result<(), Stop>
+    requires { F.IsAlwaysCallable put }
+    ensures { either 0 4 (status_in result) ≡ true }
 {
     let mut room = [0u8; PATH];
-    let path = match name(rt, files::IMAGE, &mut room) {
-        Ok(path) => path,
-        Err(why) => {
-            nameless(rt, IMAGE_FILE, NO_OUTPUT_NAME, why);
-            return NO_OUTPUT;
-        }
+    let path = name(rt, i, &mut room).map_err(|why| {
+        nameless(rt, file, NO_OUTPUT_NAME, why);
+        Stop::NoOutput
+    })?;
+    let stop = |what, why| {
+        failed(rt, path.as_bytes(), file, what, why);
+        Stop::NoOutput
     };
-    let mut out = match File::create(rt, path) {
-        Ok(out) => out,
-        Err(why) => {
-            failed(rt, path.as_bytes(), IMAGE_FILE, CANNOT_CREATE, why);
-            return NO_OUTPUT;
-        }
-    };
-    let written = put(&mut out, image, func_info, line_info);
-    close(rt, &out, written, path.as_bytes(), IMAGE_FILE)
+    let mut out = File::create(rt, path).map_err(|why| stop(CANNOT_CREATE, why))?;
+    put(&mut out).map_err(|why| stop(CANNOT_WRITE, why))?;
+    kept(&out).map_err(|why| stop(CANNOT_CLOSE, why))
 }
 
-// Writes the pieces file, and says the same of it.
-pub fn write_pieces(rt: &(impl Env + Files + Eprint), pieces: &[u8]) -> u32
-    ensures { (result ≤ 4) × (either 0 4 result ≡ true) }
+// Writes the image file.
+pub fn write_image(rt: &(impl Env + Files + Eprint), image: Program) -> Result<(), Stop>
+    requires { (length image.instructions.now ≤ own_most) × ((length image.func_info.now ≤ own_most) × (length image.line_info.now ≤ own_most)) }
+    ensures { either 0 4 (status_in result) ≡ true }
 {
-    let mut room = [0u8; PATH];
-    let path = match name(rt, files::PIECES, &mut room) {
-        Ok(path) => path,
-        Err(why) => {
-            nameless(rt, PIECES_FILE, NO_OUTPUT_NAME, why);
-            return NO_OUTPUT;
-        }
-    };
-    let mut out = match File::create(rt, path) {
-        Ok(out) => out,
-        Err(why) => {
-            failed(rt, path.as_bytes(), PIECES_FILE, CANNOT_CREATE, why);
-            return NO_OUTPUT;
-        }
-    };
-    let written = out.write_all(pieces);
-    close(rt, &out, written, path.as_bytes(), PIECES_FILE)
+    write(rt, files::IMAGE, IMAGE_FILE, |out| put(out, image))
+}
+
+// Writes the pieces file.
+pub fn write_pieces(rt: &(impl Env + Files + Eprint), pieces: &[u8]) -> Result<(), Stop>
+    ensures { either 0 4 (status_in result) ≡ true }
+{
+    write(rt, files::PIECES, PIECES_FILE, |out| out.write_all(pieces))
 }

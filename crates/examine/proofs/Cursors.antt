@@ -25,7 +25,7 @@ clash : {X : Type 0} {b : Bool} → b ≡ true → b ≡ false → X
 clash e f = let z : ◌≡◌ {A = ℕ} 0 1 = cc in absurd (omega arith)
 
 module _ (t : List ℕ) (sound : Sound Relocations t) (home place : ℕ) where
-  pub within : relocations_before t home place ≤ whole_rows Relocations t
+  within : relocations_before t home place ≤ whole_rows Relocations t
   unfolding relocations_before
   within = go (first_from (λ k. not (relocation_is_before t home place k)) 0 (whole_rows Relocations t)) (λ k e. (found_passes (λ k. not (relocation_is_before t home place k)) 0 (whole_rows Relocations t) k e).high)
     where

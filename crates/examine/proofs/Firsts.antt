@@ -42,9 +42,6 @@ module _ (wrong : ℕ → Option Reply) (j n : ℕ) where
   pub wrong_end : n ≤ j → first_wrong wrong j (n - j) ≡ none
   wrong_end h = let e : n - j ≡ 0 = omega arith in ap (first_wrong wrong j) e
 
-pub wrong_start : (wrong : ℕ → Option Reply) (n : ℕ) → first_wrong wrong 0 n ≡ first_wrong wrong 0 (n - 0)
-wrong_start wrong n = let e : n ≡ n - 0 = omega arith in ap (first_wrong wrong 0) e
-
 -- two tests that say the same of each of them
 pub alike : (f g : ℕ → Option Reply) (from n : ℕ) → ((j : ℕ) → from ≤ j → j < from + n → f j ≡ g j) → first_wrong f from n ≡ first_wrong g from n
 alike f g from zero same = refl

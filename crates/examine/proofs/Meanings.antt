@@ -4,7 +4,7 @@ use mathlib.Core.Path.{◌≡◌, refl, sym, ap, subst, ◌∙◌}
 use mathlib.Core.Bool.{Bool, true, false, cond, ◌&&◌}
 use mathlib.Core.Option.{Option, some}
 use mathlib.Core.List.{List, []}
-use Prim.Native.Nat.{ℕ, ◌+◌, ◌≤◌, ◌<◌}
+use Prim.Native.Nat.{ℕ, ◌+◌, ◌<◌}
 use native.Mathlib.Omega.{arith}
 use lib.Dec.{eqb}
 use Rattle.rules.specs.declared.Table.TheVariants.{Functions}
@@ -17,7 +17,7 @@ use Rattle.rules.specs.Faithful.{Piece, piece, slot_at}
 use Rattle.rules.specs.Answers.{Reply}
 use Rattle.rules.specs.Tables.{object_of}
 use Rattle.rules.specs.Rows.{whole_rows, Offered, tables_of, function_slots}
-use Rattle.rules.specs.Lookups.{found_of, relocation_with, relocations_before}
+use Rattle.rules.specs.Lookups.{found_of, relocation_with}
 use Rattle.rules.specs.Pieces.{pieces_of}
 use Rattle.rules.specs.Examine.{same_number, same_form, shown, claim_of, slot_wrong, slots_wrong, first_wrong}
 use Rattle.rules.proofs.Passed.{few_rows}
@@ -28,8 +28,8 @@ use Rattle.resolve.specs.declared.Pointer.{Pointer}
 use Rattle.resolve.specs.Means.{Means}
 use Rattle.resolve.specs.Resolves.{Resolves}
 use Rattle.resolve.proofs.Laws.{points_inside}
-use Rattle.resolve.proofs.Slots.{end_inside, insn_at}
-use Rattle.examine.specs.Compared.{Compares, Callable, Visits, call_wrong, reference_wrong, meant_wrong}
+use Rattle.resolve.proofs.Slots.{insn_at}
+use Rattle.examine.specs.Compared.{Callable, Visits, call_wrong, reference_wrong, meant_wrong}
 
 -- ---- what a reference may not change: opcode and destination, and the offset
 module _ (i j : Insn) where
@@ -91,7 +91,7 @@ module _ (o : Offered) (image pieces : List ℕ) (k row start : ℕ) where
       insn_is = insn_at r slot turn
 
       -- the code's judgement of the slot
-      pub test_is : (m : Meant) → Means row slot m (meaning (object_of (tables_of little o)) row slot)
+      test_is : (m : Meant) → Means row slot m (meaning (object_of (tables_of little o)) row slot)
           → slot_test slot ≡ meant_wrong (pieces_of pieces) k slot (start + slot) (slot_in little o.instructions (first + slot)) (slot_in little image (start + slot)) m
       unfolding slot_test
       test_is m e =
@@ -100,16 +100,10 @@ module _ (o : Offered) (image pieces : List ℕ) (k row start : ℕ) where
           ∙ meant (pieces_of pieces) k row slot (start + slot) (slot_in little o.instructions (first + slot)) (slot_in little image (start + slot)) m
           (meaning (object_of (tables_of little o)) row slot) e
 
-      pub callable : (m : Meant) → Means row slot m (meaning (object_of (tables_of little o)) row slot) → Callable m
+      callable : (m : Meant) → Means row slot m (meaning (object_of (tables_of little o)) row slot) → Callable m
       callable (Ok None) e = tt
       callable (Ok (Some p)) e = omega (arith, points_inside o row slot p e, few_rows Functions o.functions v.tables.functions)
       callable (Err x) e = tt
-
-      pub compares : {here at : ℕ} → here ≡ start + slot → at ≡ first + slot → Compares image here o.instructions at pieces
-      compares p q = record {
-        slots = record { first = omega (arith, v.inside); second = omega (arith, end_inside r) };
-        rise = v.rise;
-      }
 
 -- the same, where the code holds these numbers under names of its own
 module _ {o : Offered} {image pieces : List ℕ} {row start first : ℕ} (v : Visits o image pieces row start first) (k : ℕ) {n slot : ℕ} (is : slot ≡ n)
@@ -125,9 +119,6 @@ module _ {o : Offered} {image pieces : List ℕ} {row start first : ℕ} (v : Vi
     callable_at = callable o image pieces k row start v n turn at_n m (means_at m means)
 
     module _ {here at : ℕ} (here_is : here ≡ start + slot) (at_is : at ≡ first + slot) where
-      pub compares_at : Compares image here o.instructions at pieces
-      compares_at = compares o image pieces k row start v n turn at_n (omega arith) (omega arith)
-
       pub judged_at : {x : Option Reply} → x ≡ meant_wrong (pieces_of pieces) k slot here (slot_in little o.instructions at) (slot_in little image here) m
           → slot_test o image pieces k row start n ≡ x
       judged_at {x} e =

@@ -3,22 +3,20 @@
 use mathlib.Core.Path.{◌≡◌, refl, sym, ap, ◌∙◌}
 use mathlib.Core.Bool.{Bool, true, false, cond, ◌&&◌}
 use mathlib.Core.Option.{Option, none, some}
-use mathlib.Core.List.{List}
-use Prim.Native.Nat.{ℕ, zero, suc, ◌+◌, ◌-◌, ◌≤◌, ◌<◌}
-use native.Mathlib.Omega.{arith}
-use borrow.Author.Tests.{eq-eqb, ne_eqb, lt-ltb, le-ltb, lt-leb, le-leb}
+use Prim.Native.Nat.{ℕ, ◌+◌, ◌≤◌, ◌<◌}
+use borrow.Author.Tests.{lt-ltb, le-ltb}
 use lib.Dec.{eqb, leb}
 use lib.ListN.{length}
 use Rattle.rules.specs.declared.Table.TheVariants.{FuncInfo, LineInfo}
 use Rattle.rules.specs.Bytes.{little}
 use Rattle.rules.specs.Answers.{Reply, reply}
 use Rattle.rules.specs.Tables.{FunctionRecord, LineRecord, Tables}
-use Rattle.rules.specs.Rows.{whole_rows, table_number, or_else, record_slot, func_info_row, line_info_row}
+use Rattle.rules.specs.Rows.{whole_rows, table_number, or_else, func_info_row, line_info_row}
 use Rattle.rules.specs.Examine.{Shown, claim_of, same_function_record, same_line_record, over_wrong}
 use Rattle.rules.proofs.Linking.{length_run}
 use Rattle.examine.specs.declared.records.FuncRecord as code
 use Rattle.examine.specs.declared.records.LineRecord as lines
-use Rattle.examine.specs.Recorded.{func_read, line_read, func_of, line_of, record_wrong, stray_reply, stray_of, over, Movable}
+use Rattle.examine.specs.Recorded.{func_read, line_read, record_wrong, over}
 
 -- ---- a record's judgement by a test
 module _ (number k n at : ℕ) (test : ℕ → Bool) (j : ℕ) where
@@ -44,48 +42,6 @@ pub same_lines : (r s : lines.LineRecord) {a b : LineRecord} → line_read r ≡
     → (eqb r.slot s.slot && (eqb r.file s.file && (eqb r.line s.line && eqb r.column s.column))) ≡ same_line_record a b
 unfolding same_line_record
 same_lines r s e f = rw (sym e, sym f) refl
-
--- ---- records that a piece moves
-module _ (start : ℕ) (r : FunctionRecord) where
-  pub own_func : (k : ℕ) → k ≡ 0 → r ≡ func_of k start r
-  own_func zero e = refl
-  own_func (suc k) e = absurd (omega arith)
-
-  pub moved_func : (k : ℕ) → (k ≡ 0 → ⊥) → record { slot = start; kind = r.kind } ≡ func_of k start r
-  moved_func zero n = absurd (n refl)
-  moved_func (suc k) n = refl
-
-module _ (origin start : ℕ) (l : LineRecord) where
-  pub own_line : (k : ℕ) → k ≡ 0 → l ≡ line_of k origin start l
-  own_line zero e = refl
-  own_line (suc k) e = absurd (omega arith)
-
-  pub moved_line : (k : ℕ) → (k ≡ 0 → ⊥) → record { slot = start + (l.slot - origin); file = l.file; line = l.line; column = l.column } ≡ line_of k origin start l
-  moved_line zero n = absurd (n refl)
-  moved_line (suc k) n = refl
-
-  -- what moves has room to
-  pub moves_down : (k : ℕ) → (k ≡ 0 → ⊥) → Movable k origin start l → origin ≤ l.slot
-  moves_down zero n m = absurd (n refl)
-  moves_down (suc k) n m = m.0
-
-  pub moves_up : (k : ℕ) → (k ≡ 0 → ⊥) → Movable k origin start l → start + (l.slot - origin) < 0x1_0000_0000
-  moves_up zero n m = absurd (n refl)
-  moves_up (suc k) n m = m.1
-
--- ---- 12
-module _ (row : ℕ) where
-  pub stray_first : (k : ℕ) (found : Option ℕ) → k ≡ 0 → none ≡ stray_of k row found
-  stray_first zero found e = refl
-  stray_first (suc k) found e = absurd (omega arith)
-
-  pub stray_found : (k : ℕ) {found : Option ℕ} (j : ℕ) → (k ≡ 0 → ⊥) → found ≡ some j → some (reply 12 row j 0) ≡ stray_of k row found
-  stray_found zero j n e = absurd (n refl)
-  stray_found (suc k) j n e = sym (ap (stray_reply row) e)
-
-  pub stray_none : (k : ℕ) {found : Option ℕ} → found ≡ none → none ≡ stray_of k row found
-  stray_none zero e = refl
-  stray_none (suc k) e = sym (ap (stray_reply row) e)
 
 -- ---- 44
 module _ (tables : Tables) (s : Shown) (f l : ℕ) where

@@ -79,9 +79,6 @@ module _ {o : Offered} {s : Shown} {k funcs lines : ℕ} (p : Pieced o s k funcs
   checked : LinkChecked o
   checked = p.list.sizes.checked
 
-  pub in_list : piece_size * k + piece_size ≤ length s.pieces
-  in_list = omega (arith, p.is_piece)
-
   pub few_pieces : k < most_image_slots
   few_pieces = omega (arith, p.is_piece, (fits p.list).pieces.few)
 
@@ -95,7 +92,7 @@ module _ {o : Offered} {s : Shown} {k funcs lines : ℕ} (p : Pieced o s k funcs
     pub row_sums : Sums o.functions row
     row_sums = sums o row parts
 
-    pub row_low : row < most_rows Functions
+    row_low : row < most_rows Functions
     row_low = omega (arith, row_in, few_rows Functions o.functions checked.tables.functions)
 
     module _ {start : ℕ} (at : start ≡ piece_start s.pieces k) where
@@ -243,32 +240,20 @@ module _ (o : Offered) (s : Shown) where
 
 -- ---- the claim
 module _ (o : Offered) (s : Shown) (root : ℕ) where
-  abbrev root_part : Option Reply
+  abbrev pub root_part : Option Reply
   root_part = root_wrong root (pieces_of s.pieces)
 
-  abbrev tiles_part : Option Reply
+  abbrev pub tiles_part : Option Reply
   tiles_part = tiles_wrong (functions_only o.functions) (length s.image / 8) 0 0 (pieces_of s.pieces)
 
-  abbrev pieces_part : Option Reply
+  abbrev pub pieces_part : Option Reply
   pieces_part = pieces_wrong (tables_of little o) (claim_of little s) 0 0 0 (pieces_of s.pieces)
 
-  claim_parts : claim_wrong (tables_of little o) (claim_of little s) root ≡ or_else root_part (or_else tiles_part pieces_part)
+  pub claim_parts : claim_wrong (tables_of little o) (claim_of little s) root ≡ or_else root_part (or_else tiles_part pieces_part)
   unfolding claim_wrong claim_of
   claim_parts =
       ap (λ n. or_else root_part (or_else (tiles_wrong (object_of (tables_of little o)) n 0 0 (pieces_of s.pieces)) pieces_part)) (decoded_length little s.image)
       ∙ ap (λ x. or_else root_part (or_else x pieces_part)) (sym (tiles_alike o (length s.image / 8) 0 0 (pieces_of s.pieces)))
-
-  pub root_wrong_lem : {r : Reply} → root_wrong root (pieces_of s.pieces) ≡ some r → claim_wrong (tables_of little o) (claim_of little s) root ≡ some r
-  root_wrong_lem e = claim_parts ∙ or_first (or_else tiles_part pieces_part) e
-
-  module _ (first : root_wrong root (pieces_of s.pieces) ≡ none) where
-    pub tiles_wrong_lem : {r : Reply} → tiles_wrong (functions_only o.functions) (length s.image / 8) 0 0 (pieces_of s.pieces) ≡ some r
-        → claim_wrong (tables_of little o) (claim_of little s) root ≡ some r
-    tiles_wrong_lem e = claim_parts ∙ or_second (or_else tiles_part pieces_part) first ∙ or_first pieces_part e
-
-    pub pieces_judged : tiles_wrong (functions_only o.functions) (length s.image / 8) 0 0 (pieces_of s.pieces) ≡ none
-        → claim_wrong (tables_of little o) (claim_of little s) root ≡ pieces_wrong (tables_of little o) (claim_of little s) 0 0 0 (pieces_of s.pieces)
-    pieces_judged e = claim_parts ∙ or_second (or_else tiles_part pieces_part) first ∙ or_second pieces_part e
 
 module _ {o : Offered} {s : Shown} (z : Sized o s) where
   pub tileable : Tileable o.functions s.pieces
@@ -292,27 +277,9 @@ pub end_at : (functions pieces : List ℕ) {end n : ℕ} → end ≡ n → {x : 
 end_at functions pieces e said = ap (λ m. tiles_wrong (functions_only functions) m 0 0 (pieces_of pieces)) (sym e) ∙ sym said
 
 -- ---- the whole
-module _ (o : Offered) (root : ℕ) (s : Shown) where
-  entry_parts : examine_entry little o root s ≡ verdict (length s.pieces / piece_size) (or_else (link_refusal o root) (or_else (sizes_wrong s) (claim_wrong (tables_of little o) (claim_of little s) root)))
-  unfolding examine_entry examine_refusal
-  entry_parts = refl
+module _ (o : Offered) (root : ℕ) (s : Shown) (passed : link_refusal o root ≡ none) (fits_all : sizes_wrong s ≡ none) where
+  pub sized : Sized o s
+  sized = record { checked = link_checked o root passed; sized = fits_all }
 
-  pub tables_refused : {r : Reply} → link_refusal o root ≡ some r → examine_entry little o root s ≡ r
-  tables_refused e = entry_parts ∙ ap (verdict (length s.pieces / piece_size)) (or_first (or_else (sizes_wrong s) (claim_wrong (tables_of little o) (claim_of little s) root)) e)
-
-  module _ (passed : link_refusal o root ≡ none) where
-    rest : examine_entry little o root s ≡ verdict (length s.pieces / piece_size) (or_else (sizes_wrong s) (claim_wrong (tables_of little o) (claim_of little s) root))
-    rest = entry_parts ∙ ap (verdict (length s.pieces / piece_size)) (or_second (or_else (sizes_wrong s) (claim_wrong (tables_of little o) (claim_of little s) root)) passed)
-
-    pub sizes_refused : {r : Reply} → sizes_wrong s ≡ some r → examine_entry little o root s ≡ r
-    sizes_refused e = rest ∙ ap (verdict (length s.pieces / piece_size)) (or_first (claim_wrong (tables_of little o) (claim_of little s) root) e)
-
-    module _ (fits_all : sizes_wrong s ≡ none) where
-      pub sized : Sized o s
-      sized = record { checked = link_checked o root passed; sized = fits_all }
-
-      pub judged : {x : Option Reply} → claim_wrong (tables_of little o) (claim_of little s) root ≡ x → examine_entry little o root s ≡ verdict (length s.pieces / piece_size) x
-      judged e = rest ∙ ap (verdict (length s.pieces / piece_size)) (or_second (claim_wrong (tables_of little o) (claim_of little s) root) fits_all ∙ e)
-
-      pub pieces_few : length s.pieces ≤ piece_size * most_image_slots
-      pieces_few = (sizes_fit s fits_all).pieces.few
+  pub pieces_few : length s.pieces ≤ piece_size * most_image_slots
+  pieces_few = (sizes_fit s fits_all).pieces.few

@@ -61,7 +61,7 @@ module _ (a b c d a' b' c' d' : ℕ) (la : a < 256) (lb : b < 256) (lc : c < 256
 
 -- ---- slots
 module _ (t : List ℕ) (are : AreBytes t) (at : ℕ) where
-  pub u16_low : u16_at little t at < half16 + half16
+  u16_low : u16_at little t at < half16 + half16
   unfolding u16_at
   u16_low = omega (arith, are at, are (at + 1))
 
@@ -78,7 +78,7 @@ module _ (x y : List ℕ) (are-x : AreBytes x) (are-y : AreBytes y) (i j : ℕ) 
   unfolding decode
   same_immediate = same_signed half32 (u32_at little x (i + 4)) (u32_at little y (j + 4)) (u32_low x are-x (i + 4)) (u32_low y are-y (j + 4))
 
-  pub same_form_lem : (eqb (byte_at x i) (byte_at y j) && (eqb (byte_at x (i + 1) % 16) (byte_at y (j + 1) % 16) && eqb (u16_at little x (i + 2)) (u16_at little y (j + 2))))
+  same_form_lem : (eqb (byte_at x i) (byte_at y j) && (eqb (byte_at x (i + 1) % 16) (byte_at y (j + 1) % 16) && eqb (u16_at little x (i + 2)) (u16_at little y (j + 2))))
       ≡ same_form (decode little x i) (decode little y j)
   unfolding same_form decode
   same_form_lem = ap (λ b. eqb (byte_at x i) (byte_at y j) && (eqb (byte_at x (i + 1) % 16) (byte_at y (j + 1) % 16) && b)) same_offset

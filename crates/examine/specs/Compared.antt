@@ -14,6 +14,8 @@ use Rattle.rules.specs.Rows.{whole_rows, most_image_slots, summed, Offered, func
 use Rattle.rules.specs.Lookups.{Checked}
 use Rattle.rules.specs.Examine.{same_form, same_head, same_slot, target_of, starts_at}
 use Rattle.resolve.specs.declared.Pointer.{Pointer}
+use Rattle.std.proofs.Props.{props}
+use Rattle.rules.specs.Lookups.{Rising}
 use Rattle.pieces.specs.Tiling.{StartsRise}
 
 -- a slot without a relocation whose opcode is not a call's
@@ -26,10 +28,10 @@ pub record Slots (a : List ℕ) (i : ℕ) (b : List ℕ) (j : ℕ) : Type 0 wher
   pub first : slot_size * i + slot_size ≤ length a
   pub second : slot_size * j + slot_size ≤ length b
 
--- a slot of an image, its source slot, and a list whose starts rise
-pub record Compares (image : List ℕ) (here : ℕ) (instructions : List ℕ) (at : ℕ) (pieces : List ℕ) : Type 0 where
-  pub slots : Slots image here instructions at
-  pub rise : StartsRise pieces
+-- that starts rise is a fact: there is one proof of it at most
+pub rise_prop : (pieces : List ℕ) → IsProp (StartsRise pieces)
+unfolding Rising
+rise_prop pieces = Prim.hlevel props
 
 -- a callee's row is a number of 32 bits
 abbrev pub Callable : prelude.Result (prelude.Option Pointer) Refusal → Type 0

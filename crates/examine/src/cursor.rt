@@ -14,6 +14,7 @@ pub struct Cursor<'a> {
     pub home: u32,
     pub offset: ByteOffset,
     pub row: usize,
+    pub ghost sound: { Sound Relocations relocations.now },
     pub ghost stands: { row ≡ relocations_before relocations.now home offset.0 },
 }
 
@@ -34,7 +35,7 @@ impl<'a> Cursor<'a> {
 
     // Moved on to a later place.
     pub fn moved_to(self, offset: ByteOffset) -> Cursor<'a>
-        requires { Sound Relocations self.relocations.now × (self.offset.0 ≤ offset.0) }
+        requires { self.offset.0 ≤ offset.0 }
         ensures table { result.relocations.now ≡ self.entry.relocations.now }
         ensures place { (result.home ≡ self.entry.home) × (result.offset.0 ≡ offset.0) }
     {
@@ -58,7 +59,6 @@ impl<'a> Cursor<'a> {
 
     // The relocation at the place: where it stands, or none.
     pub fn relocation(self) -> Option<usize>
-        requires { Sound Relocations self.relocations.now }
         ensures { result ≡ found_of (relocation_with self.entry.relocations.now self.entry.home self.entry.offset.0) }
     {
         let n = self.relocations.len() / RELOCATION_SIZE;

@@ -97,6 +97,7 @@ fn check_pieces(
 }
 
 // The pieces, over checked tables and what is shown in whole rows.
+#[tactic(auto, using(crate::proofs::Whole::claim_parts))]
 fn check_claim(
     names: Names,
     program: Program,
@@ -117,6 +118,7 @@ fn check_claim(
 }
 
 // Is the image a link of the function at the row root, with these pieces? If not, the first thing that is wrong.
+#[tactic(auto, unfolding(rules::specs::Examine::examine_entry, rules::specs::Examine::examine_refusal))]
 pub fn examine(
     names: Names,
     program: Program,

@@ -131,7 +131,7 @@ fn check_funcs(func_info: &[u8], shown: &[u8], piece: Piece, count: u32) -> Resu
     })
 }
 
-// Its line records, `count` of table 8.
+// Its line records, `count` of table 8: these move by the first one's slot, so there has to be one.
 fn check_lines(line_info: &[u8], shown: &[u8], piece: Piece, count: u32) -> Result<(), Refusal>
     requires { Lines line_info.now piece.part.lines count piece.lines piece.k piece.start.0 }
     ensures { refusal_in result
@@ -156,26 +156,21 @@ fn check_lines(line_info: &[u8], shown: &[u8], piece: Piece, count: u32) -> Resu
 }
 
 // The link's own 12, for every piece but the first.
-fn check_stray(
-    functions: &[u8],
-    line_info: &[u8],
-    row: usize,
-    first: u32,
-    k: u32,
-) -> Result<(), Refusal>
-    requires { Strays functions.now line_info.now row first }
-    ensures { refusal_in result ≡ stray_of k row (stray_in functions.now line_info.now row) }
+fn check_stray(functions: &[u8], line_info: &[u8], piece: Piece) -> Result<(), Refusal>
+    requires { Strays functions.now line_info.now piece.row piece.part.lines }
+    ensures { refusal_in result ≡ stray_of piece.k piece.row (stray_in functions.now line_info.now piece.row) }
 {
-    if k == 0 {
+    if piece.k == 0 {
         return Ok(());
     }
-    match stray_line(functions, line_info, row, first) {
-        Some(j) => Err(refusal(Cause::LineOutside, row as u32, j as u32)),
+    match stray_line(functions, line_info, piece.row, piece.part.lines) {
+        Some(j) => Err(refusal(Cause::LineOutside, piece.row as u32, j as u32)),
         None => Ok(()),
     }
 }
 
 // The records of a piece.
+#[tactic(auto, unfolding(crate::specs::Recorded::records_wrong))]
 pub fn check_records(
     functions: &[u8],
     program: Program,
@@ -189,13 +184,7 @@ pub fn check_records(
 {
     let funcs = function_func_info(functions, piece.row);
     check_funcs(program.func_info, image.func_info, piece, funcs)?;
-    check_stray(
-        functions,
-        program.line_info,
-        piece.row,
-        piece.part.lines,
-        piece.k,
-    )?;
+    check_stray(functions, program.line_info, piece)?;
     let lines = function_line_info(functions, piece.row);
     check_lines(program.line_info, image.line_info, piece, lines)
 }
@@ -210,6 +199,7 @@ fn check_most(table: Table, t: &[u8], most: u32) -> Result<(), Refusal>
 }
 
 // So many records belong to the pieces.
+#[tactic(auto, using(crate::proofs::Same::over_parts))]
 pub fn check_over(image: Program, funcs: u32, lines: u32) -> Result<(), Refusal>
     ensures { refusal_in result ≡ over_wrong
         (tables_of little (link_offer [] [] [] [] [] [] []))

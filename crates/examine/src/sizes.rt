@@ -11,9 +11,10 @@ use rules::limits::{
 };
 use rules::{Cause, Program, Refusal, Table};
 
-// The list, after the eight tables.
+// The list's number in an answer, after those of the eight tables: document 02's, and the list is no table.
 pub const LIST_NUMBER: u32 = 9;
 
+#[tactic(auto, unfolding(rules::specs::Examine::size_wrong))]
 pub fn check_size(number: u32, size: usize, most: usize, t: &[u8]) -> Result<(), Refusal>
     requires { (0 < size) × (size * most < 0x1_0000_0000) }
     ensures { refusal_in result ≡ size_wrong number size most t.now }
@@ -28,6 +29,7 @@ pub fn check_size(number: u32, size: usize, most: usize, t: &[u8]) -> Result<(),
     Ok(())
 }
 
+#[tactic(auto, unfolding(rules::specs::Examine::sizes_wrong))]
 pub fn check_sizes(shown: Program, pieces: &[u8]) -> Result<(), Refusal>
     ensures { refusal_in result ≡ sizes_wrong (lent_shown shown.entry pieces.now) }
 {

@@ -13,7 +13,7 @@ ghost use Rattle.rules.specs.Examine.{same_form, same_head, same_slot, shown, cl
 ghost use Rattle.pieces.specs.Tiling.{StartsRise};
 ghost use Rattle.resolve.specs.Means.{Means};
 ghost use Rattle.resolve.specs.Resolves.{Resolves};
-ghost use Rattle.examine.specs.Compared.{is_plain, Slots, Compares, Callable, Visits, target_wrong, call_wrong, reference_wrong, meant_wrong};
+ghost use Rattle.examine.specs.Compared.{is_plain, Slots, Callable, rise_prop, Visits, target_wrong, call_wrong, reference_wrong, meant_wrong};
 
 use crate::cursor::Cursor;
 use crate::piece::Piece;
@@ -25,6 +25,9 @@ use rows::fields::{function_offset, function_section, function_slots};
 use rules::{Cause, Names, Refusal, Slot};
 use walk::ahead;
 use wire::{u16_at, u32_at, u64_at};
+
+// Three comparisons, each of other bytes: one word is quicker than its fields, and three fields lie in two words. They take the slices themselves,
+// and are no methods of `Compared`: that its items are bytes is known of a slice that is a parameter, not of a field.
 
 // All that a reference may not change.
 fn same_form(a: &[u8], i: Slot, b: &[u8], j: Slot) -> bool
@@ -62,6 +65,9 @@ struct Compared<'a> {
     pieces: &'a [u8],
     k: u32,
     slot: Slot,
+    ghost own: { slot_size * here.0 + slot_size ≤ length image.now },
+    ghost source: { slot_size * at.0 + slot_size ≤ length instructions.now },
+    ghost rise: { StartsRise pieces.now } by { rise_prop pieces.now },
 }
 
 impl Compared<'_> {
@@ -73,7 +79,6 @@ impl Compared<'_> {
 
     // The slot points to the start of a piece of the callee (41).
     fn check_target(self, callee: u32) -> Result<(), Refusal>
-        requires { (slot_size * self.here.0 + slot_size ≤ length self.image.now) × StartsRise self.pieces.now }
         ensures { refusal_in result ≡ target_wrong (pieces_of self.entry.pieces.now) self.entry.k self.entry.slot.0 self.entry.here.0
             (slot_in little self.entry.image.now self.entry.here.0) callee }
     {
@@ -84,8 +89,8 @@ impl Compared<'_> {
         Err(finding(Cause::WrongTarget, self.k, self.slot.0, callee))
     }
 
+    // A call keeps its source register; a reference (below) gets 4.
     fn check_call(self, callee: u32) -> Result<(), Refusal>
-        requires { Compares self.image.now self.here.0 self.instructions.now self.at.0 self.pieces.now }
         ensures { refusal_in result ≡ call_wrong (pieces_of self.entry.pieces.now) self.entry.k self.entry.slot.0 self.entry.here.0
             (slot_in little self.entry.instructions.now self.entry.at.0) (slot_in little self.entry.image.now self.entry.here.0) callee }
     {
@@ -96,7 +101,6 @@ impl Compared<'_> {
     }
 
     fn check_reference(self, callee: u32) -> Result<(), Refusal>
-        requires { Compares self.image.now self.here.0 self.instructions.now self.at.0 self.pieces.now }
         ensures { refusal_in result ≡ reference_wrong (pieces_of self.entry.pieces.now) self.entry.k self.entry.slot.0 self.entry.here.0
             (slot_in little self.entry.instructions.now self.entry.at.0) (slot_in little self.entry.image.now self.entry.here.0) callee }
     {
@@ -111,7 +115,7 @@ impl Compared<'_> {
 
     // By what the link makes of the source slot.
     fn check(self, meaning: Result<Option<Pointer>, Refusal>) -> Result<(), Refusal>
-        requires { Compares self.image.now self.here.0 self.instructions.now self.at.0 self.pieces.now × Callable meaning }
+        requires { Callable meaning }
         ensures { refusal_in result ≡ meant_wrong (pieces_of self.entry.pieces.now) self.entry.k self.entry.slot.0 self.entry.here.0
             (slot_in little self.entry.instructions.now self.entry.at.0) (slot_in little self.entry.image.now self.entry.here.0) meaning }
     {

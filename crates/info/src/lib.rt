@@ -94,6 +94,7 @@ impl<'a> Records<'a> {
         ensures { out.new ≡ padded (length out.old) (rows_of_records little (table_in self.entry) (info_in self.entry) 0 self.entry.count) }
     {
         let row = self.kind.row_size();
+        // No zip with chunks_exact_mut: a proof loses what is written through it.
         for (k, record) in self.bytes.chunks_exact(self.size as usize).enumerate() {
             put_u32(out, row * k, slot_in(record));
             copy(out, row * k + 4, record, 4, row - 4);
@@ -117,6 +118,7 @@ impl<'a> Records<'a> {
     }
 
     // Record k, its tail included; empty where the data is refused or has no record k.
+    // No Option: a reader of a part can't fail (`GivenBack`), and `record_number` says which it is.
     pub fn record(self, k: u32) -> &'a [u8]
         ensures { GivenBack (table_in self.entry) (info_in self.entry) k self.entry.bytes result }
     {

@@ -10,7 +10,6 @@ use borrow.Author.Tests.{eq-eqb, ne_eqb, lt-ltb, le-ltb, le-leb, lt-leb, ltb-tru
 use lib.Dec.{eqb, ltb}
 use lib.IntN.{ℤ, pos, ◌+ℤ◌}
 use lib.ListN.{length}
-use Rattle.std.proofs.Common.{nat_cmp, is_lt, is_ge}
 use Rattle.std.specs.Prelude as prelude
 use Rattle.std.specs.Prelude.{Ok, Err, Some, None}
 use Rattle.rules.specs.declared.Table.TheVariants.{Functions}
@@ -35,18 +34,6 @@ use Rattle.judge.specs.Verdicts.{Verdict, RoomFor, PlacedAt, map_found, home_ver
 use Rattle.judge.specs.Judged.{tables, slots_of, task_of, slot_of, Asked, Inside, Judges}
 
 -- ---- tests
-pub less : (a b : ℕ) → is_lt (nat_cmp a b) ≡ true → a < b
-less a b e = grind (arith, e)
-
-pub not_less : (a b : ℕ) → is_lt (nat_cmp a b) ≡ false → b ≤ a
-not_less a b e = grind (arith, e)
-
-pub at_least : (a b : ℕ) → is_ge (nat_cmp a b) ≡ true → b ≤ a
-at_least a b e = grind (arith, e)
-
-pub not_at_least : (a b : ℕ) → is_ge (nat_cmp a b) ≡ false → a < b
-not_at_least a b e = grind (arith, e)
-
 and_false : (a b c : Bool) → ((a && false) && b) ≡ ((a && false) && c)
 and_false true b c = refl
 and_false false b c = refl

@@ -19,6 +19,7 @@ use rows::fields::{
     symbol_address, symbol_kind, symbol_section,
 };
 use rows::find::{find_map_section, find_map_symbol, find_symbol, is_code};
+// Numbers as they stand in a row's bytes, which rows reads as such.
 use rules::limits::{HAS_DATA, NONE};
 use rules::{ByteOffset, Cause, Names, Refusal, Slot, SymbolKind};
 
@@ -50,16 +51,13 @@ impl Site {
     {
         let here = after(first, slot);
         let end = after(first, slots);
-        let imm = immediate(instructions, here);
-        let call = insn_is_call(instructions, here);
-        let wide = is_wide_load(instructions, here, end);
         Site {
             row,
             slot,
             here,
-            imm,
-            call,
-            wide,
+            imm: immediate(instructions, here),
+            call: insn_is_call(instructions, here),
+            wide: is_wide_load(instructions, here, end),
         }
     }
 
@@ -89,17 +87,24 @@ fn by_data(
     let here = site.here;
     let fd = map_fd(maps, m);
     if map_has_data(maps, m) != HAS_DATA {
-        let value = None;
-        return Ok(Some(Change { here, fd, value }));
+        return Ok(Some(Change {
+            here,
+            fd,
+            value: None,
+        }));
     }
     let sum = value(site.imm, address);
     let Ok(next) = i32::try_from(sum) else {
         return site.refused(Cause::ValueOutside);
     };
-    let value = Some(next);
-    Ok(Some(Change { here, fd, value }))
+    Ok(Some(Change {
+        here,
+        fd,
+        value: Some(next),
+    }))
 }
 
+// The symbol's number, section and address come from two tables and are used once each: a struct of them would be no plainer.
 fn by_map(
     maps: &[u8],
     symbol: u32,
@@ -152,6 +157,7 @@ fn by_symbol(names: Names, maps: &[u8], symbol: u32, site: Site) -> Result<Optio
 }
 
 // The row k of table 4 in the function `row`, whose first slot in table 6 is `first`. None where the relocation is not for the map step.
+// A loop has row and k as its counters and first as a running sum: a struct of them would be built at each call, to be read once.
 pub fn judge(
     names: Names,
     maps: &[u8],

@@ -38,7 +38,7 @@ first_row functions relocations row = relocations_before relocations (function_s
 abbrev pub past_row : List ℕ → List ℕ → ℕ → ℕ
 past_row functions relocations row = relocations_before relocations (function_section functions row) (end_of functions row)
 
--- from that row to that row
+-- the rows from the one to the other, both counted within table 4
 pub record RelocationsOf (functions relocations : List ℕ) (row start end : ℕ) : Type 0 where
   pub start_is : start ≡ first_row functions relocations row
   pub end_is : end ≡ past_row functions relocations row

@@ -12,7 +12,7 @@ ghost use Rattle.rules.specs.Rows.{whole_rows};
 ghost use Rattle.judge.specs.Verdicts.{value_of};
 ghost use Rattle.judge.specs.Judged.{RowAsked, Asked};
 ghost use Rattle.maps.specs.Passes.{row_refusal, step_refusal, end_of, RelocationsOf};
-ghost use Rattle.maps.specs.Passes.{ChangesInside, Changed, OneRewritten, RowRewritten, AllRewritten, step_result, Relocated};
+ghost use Rattle.maps.specs.Passes.{ChangesInside, Changed, OneRewritten, RowRewritten, AllRewritten, Relocated};
 
 use insn::{after, next, place, set_immediate, set_source, slot_at};
 use judge::{Change, judge};
@@ -48,6 +48,8 @@ fn relocations_of(names: Names, row: usize) -> Range<usize>
     start..end
 }
 
+// The two passes walk alike, each in functions of its own: rewriting refuses nothing, so one walk that takes a closure would have it answer a
+// Result that is never an Err.
 fn judge_function(
     names: Names,
     maps: &[u8],
@@ -143,19 +145,12 @@ fn rewrite_all(names: Names, maps: &[u8], instructions: &mut [u8]) -> u32
     count
 }
 
-fn relocate_checked(names: Names, maps: &[u8], instructions: &mut [u8]) -> Result<Places, Refusal>
-    requires { MapChecked (lent_maps names maps.now instructions.old) }
-    ensures { Relocated (step_result (lent_maps names.entry maps.now instructions.old)) result instructions.new }
-{
-    judge_all(names, maps, instructions)?;
-    let count = rewrite_all(names, maps, instructions);
-    Ok(Places(count, 0, 0))
-}
-
 // Tables 1 to 6; table 6 is rewritten in place, only once nothing is refused.
 pub fn relocate_maps(names: Names, maps: &[u8], instructions: &mut [u8]) -> Result<Places, Refusal>
     ensures { Relocated (map_entry little (lent_maps names.entry maps.now instructions.old)) result instructions.new }
 {
     check_map_step(names, maps, instructions)?;
-    relocate_checked(names, maps, instructions)
+    judge_all(names, maps, instructions)?;
+    let count = rewrite_all(names, maps, instructions);
+    Ok(Places(count, 0, 0))
 }

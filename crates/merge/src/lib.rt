@@ -60,7 +60,7 @@ fn counts(functions: &[u8], row: usize) -> Used
     }
 }
 
-// Where a row's part begins in tables 6, 7 and 8.
+// Where a row's part begins in tables 6, 7 and 8: three sums in one pass, where tables::totals adds up one column.
 pub fn part_of(functions: &[u8], row: usize) -> Used
     requires { Sums functions.now row }
     ensures { PartBegins functions.now row result }
@@ -80,29 +80,36 @@ fn fits(used: u32, more: u32, bytes: usize, size: usize, most: usize) -> bool
     n <= most && n <= bytes / size
 }
 
-// Whether a row's part fits behind what the image holds.
+// Whether a row's part fits behind what is used, of outputs of so many bytes.
 #[tactic(auto, unfolding(crate::specs::Merge::room_bytes))]
-pub fn has_room(functions: &[u8], image: &Image, used: Used, row: usize) -> bool
+pub fn has_room(
+    functions: &[u8],
+    image: usize,
+    funcs: usize,
+    lines: usize,
+    used: Used,
+    row: usize,
+) -> bool
     requires { row < whole_rows Functions functions.now }
-    ensures { result ≡ room_bytes functions.now (length image.now.slots.now) (length image.now.func_info.now) (length image.now.line_info.now) used row }
+    ensures { result ≡ room_bytes functions.now image funcs lines used row }
 {
     let added = counts(functions, row);
     fits(
         used.slots,
         added.slots,
-        image.slots.len(),
+        image,
         INSTRUCTION_SIZE,
         MOST_IMAGE_SLOTS,
     ) && fits(
         used.funcs,
         added.funcs,
-        image.func_info.len(),
+        funcs,
         FUNC_INFO_SIZE,
         MOST_IMAGE_FUNC_INFO,
     ) && fits(
         used.lines,
         added.lines,
-        image.line_info.len(),
+        lines,
         LINE_INFO_SIZE,
         MOST_IMAGE_LINE_INFO,
     )
@@ -146,7 +153,8 @@ fn copy_rows(size: usize, table: &[u8], first: u32, count: u32, out: &mut [u8], 
     );
 }
 
-// The crate's link_func_and_line_info, a function for each kind of record: a line record has more numbers, and keeps its way from the first one.
+// The crate's link_func_and_line_info. Two loops: the new slot of a line record is another, and one generic loop would ask for a trait with
+// laws longer than both.
 fn link_func_info(func_info: &[u8], part: Used, more: Used, out: &mut [u8], used: Used)
     requires { Copyable (row_size FuncInfo) func_info.now part.funcs more.funcs out.old used.funcs }
     ensures { out.new ≡ splice
@@ -217,7 +225,7 @@ pub fn extend(
     used + more
 }
 
-// The root: its slots and its records as they stand.
+// The root: its slots and its records as they stand. Not extend at 0, which would give all function records the start as their slot.
 pub fn begin(functions: &[u8], program: Program, image: &mut Image, row: usize, part: Used) -> Used
     requires { Begins (lent_parts functions.now program) (lent_image image.old) row part }
     ensures written { Begun (lent_parts functions.now program.entry) (lent_image image.old) (lent_image image.new) row result }

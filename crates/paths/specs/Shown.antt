@@ -1,92 +1,111 @@
--- What a line says of a walk: by which lines of the text, with which numbers, and the slot whose bytes it shows.
+-- What a line says of a walk: the place and the slot's bytes, where it shows them, and how the walk goes on.
 -- Assumes nothing.
-use Rattle.std.specs.Prelude.{◌≡◌, Bool, true, false, cond, List, ℕ, ◌+◌, ◌*◌, ◌/◌, ltb, ℤ, length}
+use Rattle.std.specs.Prelude.{◌≡◌, Bool, true, false, cond, List, [], ◌∷◌, ◌++◌, ℕ, ◌+◌, ◌*◌, ◌/◌, ◌%◌, ◌-◌, ◌^◌, ltb, ℤ, length, take, drop, Option, Some, None, codes, flat_map}
+use Rattle.std.specs.Borrow.{Bor}
+use Rattle.std.specs.Fmt.{decimal, digit_glyph, padded_integral, format_spec, option_append}
+use Rattle.std.specs.Option.{option_map}
 use Rattle.rules.specs.declared.Found.{Found}
 use Rattle.rules.specs.declared.Found.TheVariants.{At, Nothing}
-use Rattle.rules.specs.Bytes.{little, u32_at, slot_size}
+use Rattle.rules.specs.Bytes.{slot_size}
 use Rattle.rules.specs.Lookups.{found_of}
 use Rattle.rules.specs.Walk.{within}
 use Rattle.walk.specs.declared.Stand.{Stand}
 use Rattle.walk.specs.declared.Stand.TheVariants as image
 use Rattle.source.specs.declared.SourceStand.{SourceStand}
 use Rattle.source.specs.declared.SourceStand.TheVariants as source
+use Rattle.paths.specs.declared.show.End.{End}
+use Rattle.paths.specs.declared.show.End.TheVariants.{Stands, Stopped, Ended, Left, NoFrame, Refused, TooLong}
+use Rattle.paths.specs.declared.show.InSource.{InSource}
+use Rattle.paths.specs.declared.show.InImage.{InImage}
 use Rattle.paths.specs.declared.show.Place.{Place}
-
--- ---- the text's lines
-
-abbrev pub source_line : ℕ
-source_line = 2
-
-abbrev pub image_line : ℕ
-image_line = 3
-
-abbrev pub bytes_line : ℕ
-bytes_line = 4
-
-abbrev pub stands_line : ℕ
-stands_line = 5
-
-abbrev pub stopped_line : ℕ
-stopped_line = 8
-
-abbrev pub ended_line : ℕ
-ended_line = 9
-
-abbrev pub left_line : ℕ
-left_line = 10
-
-abbrev pub no_frame_line : ℕ
-no_frame_line = 11
-
--- ---- numbers
-
--- the greatest number that a line shows, and the slot of a walk that is nowhere
-abbrev pub most_shown : ℕ
-most_shown = 0xFFFF_FFFF
-
-abbrev pub small_of : ℕ → ℕ
-small_of n = cond (ltb most_shown n) most_shown n
+use Rattle.paths.specs.declared.show.Line.{Line}
 
 -- ---- places
 
-abbrev pub nowhere_at : ℕ → Place
-nowhere_at end = record { words = stands_line; a = 0; b = 0; c = 0; row = 0; slot = most_shown; end = end }
+-- a line shows slots below this number
+abbrev pub most_shown : ℕ
+most_shown = 0xFFFF_FFFF
 
 -- the slot of a place, where a line shows it
 abbrev pub slot_shown : ℤ → Found
 slot_shown at = found_of (within most_shown (λ n. n) at)
 
-abbrev pub source_by : Found → ℕ → ℕ → ℕ → Place
-source_by Nothing row depth end = nowhere_at end
-source_by (At slot) row depth end =
-    record { words = source_line; a = small_of row; b = small_of slot; c = small_of depth; row = row; slot = slot; end = end }
+abbrev pub source_by : Found → ℕ → ℕ → End → Place InSource
+source_by Nothing row depth end = record { at = None; end = end }
+source_by (At slot) row depth end = record { at = Some (record { row = row; slot = slot; depth = depth }); end = end }
 
-abbrev pub image_by : Found → ℕ → ℕ → Place
-image_by Nothing depth end = nowhere_at end
-image_by (At slot) depth end =
-    record { words = image_line; a = small_of slot; b = small_of depth; c = 0; row = 0; slot = slot; end = end }
+abbrev pub image_by : Found → ℕ → End → Place InImage
+image_by Nothing depth end = record { at = None; end = end }
+image_by (At slot) depth end = record { at = Some (record { slot = slot; depth = depth }); end = end }
 
-abbrev pub source_shown : SourceStand → Place
-source_shown (source.Standing row at depth taken) = source_by (slot_shown at) row depth stands_line
-source_shown (source.Stopped row at depth) = source_by (slot_shown at) row depth stopped_line
-source_shown (source.Ended row at) = source_by (slot_shown at) row 0 ended_line
-source_shown source.Left = nowhere_at left_line
-source_shown source.NoFrame = nowhere_at no_frame_line
+abbrev pub source_shown : SourceStand → Place InSource
+source_shown (source.Standing row at depth taken) = source_by (slot_shown at) row depth Stands
+source_shown (source.Stopped row at depth) = source_by (slot_shown at) row depth Stopped
+source_shown (source.Ended row at) = source_by (slot_shown at) row 0 Ended
+source_shown source.Left = record { at = None; end = Left }
+source_shown source.NoFrame = record { at = None; end = NoFrame }
 
-abbrev pub image_shown : Stand → Place
-image_shown (image.Standing at depth taken) = image_by (slot_shown at) depth stands_line
-image_shown (image.Stopped at depth) = image_by (slot_shown at) depth stopped_line
-image_shown (image.Ended at) = image_by (slot_shown at) 0 ended_line
-image_shown image.Left = nowhere_at left_line
-image_shown image.NoFrame = nowhere_at no_frame_line
+abbrev pub image_shown : Stand → Place InImage
+image_shown (image.Standing at depth taken) = image_by (slot_shown at) depth Stands
+image_shown (image.Stopped at depth) = image_by (slot_shown at) depth Stopped
+image_shown (image.Ended at) = image_by (slot_shown at) 0 Ended
+image_shown image.Left = record { at = None; end = Left }
+image_shown image.NoFrame = record { at = None; end = NoFrame }
 
--- ---- words
+-- ---- a slot's bytes
 
--- the words of a slot, where the code has it
-abbrev pub ShownWords : Bool → List ℕ → ℕ → ℕ → ℕ → ℕ → Type 0
-ShownWords true code slot line low high =
-    (line ≡ bytes_line) × ((low ≡ u32_at little code (slot_size * slot)) × (high ≡ u32_at little code (slot_size * slot + 4)))
-ShownWords false code slot line low high = line ≡ stands_line
+-- a slot's eight bytes, where the code has the slot
+abbrev pub bytes_at : Bool → List ℕ → ℕ → Option (List ℕ)
+bytes_at true code slot = Some (take slot_size (drop (slot_size * slot) code))
+bytes_at false code slot = None
 
-abbrev pub WordsOf : List ℕ → ℕ → ℕ → ℕ → ℕ → ℕ → Type 0
-WordsOf code first slot line low high = ShownWords (ltb (first + slot) (length code / slot_size)) code (first + slot) line low high
+abbrev pub SlotIn : List ℕ → ℕ → Option (Bor (List ℕ)) → Type 0
+SlotIn code slot r = option_map (λ b. b.now) r ≡ bytes_at (ltb slot (length code / slot_size)) code slot
+
+-- ---- a line's text
+
+-- in decimal, in a column of four
+abbrev pub column : ℕ → List ℕ
+column n = padded_integral (format_spec 32 0 0 4 (2 ^ 64 - 1)) false [] (decimal n)
+
+abbrev pub end_text : End → List ℕ
+end_text Stands = []
+end_text Stopped = codes "  stopped"
+end_text Ended = codes "  ended"
+end_text Left = codes "  left"
+end_text NoFrame = codes "  no frame"
+end_text Refused = codes "  refused"
+end_text TooLong = codes "  too long"
+
+abbrev pub source_text : InSource → List ℕ
+source_text s = codes " " ++ (column s.row ++ (codes " " ++ (column s.slot ++ (codes " " ++ column s.depth))))
+
+abbrev pub image_text : InImage → List ℕ
+image_text s = codes " " ++ (column s.slot ++ (codes " " ++ column s.depth))
+
+-- two digits for each byte
+abbrev pub hex_digits : List ℕ → List ℕ
+hex_digits bytes = flat_map (λ b. digit_glyph false (b / 16) ∷ digit_glyph false (b % 16) ∷ []) bytes
+
+abbrev pub bytes_text : Option (Bor (List ℕ)) → List ℕ
+bytes_text None = []
+bytes_text (Some b) = codes "  " ++ hex_digits b.now
+
+-- what is there, as P writes it, or nothing
+abbrev pub where_text : {P : Type 0} → (P → Option (List ℕ)) → Option P → Option (List ℕ)
+where_text output None = Some []
+where_text output (Some p) = output p
+
+abbrev pub source_place_text : Option InSource → List ℕ
+source_place_text None = []
+source_place_text (Some s) = source_text s
+
+abbrev pub image_place_text : Option InImage → List ℕ
+image_place_text None = []
+image_place_text (Some s) = image_text s
+
+-- the step; of each walk its place, its slot's bytes and how it goes on
+abbrev pub line_text : Line → List ℕ
+line_text l =
+    (codes " " ++ (column l.step ++ (codes " |" ++ (source_place_text l.source.at ++ (bytes_text l.source_bytes ++ end_text l.source.end)))))
+    ++ (codes " |" ++ (image_place_text l.image.at ++ (bytes_text l.image_bytes ++ end_text l.image.end)))

@@ -4,32 +4,22 @@
 
 mod show;
 
-ghost use Rattle.std.specs.Prelude.{◌≡◌, ◌≤◌, length};
-ghost use Rattle.rules.specs.Bytes.{little, u32_at};
-ghost use Rattle.tell.specs.Room.{file_room, instructions_room};
+ghost use Rattle.std.specs.Prelude.{◌≡◌};
 
 use clerk::reading::{Got, Read, fill, read_tables, take};
 use clerk::steps;
 use rules::Answer;
-use rules::limits::{MOST_FUNCTION_SLOTS, MOST_FUNCTIONS};
-use show::{Place, image_place, say, source_place, words_of, write_both};
+use rules::limits::{INSTRUCTION_SIZE, MOST_FUNCTIONS};
+use show::{End, InImage, InSource, Line, Place, image_place, slot_bytes, source_place};
 use source::{SourceRun, slots_of, walk_source};
 use std::io;
+use std::io::Write;
 use tell::files;
 use tell::files::{length_of, table};
 use tell::room::{FILE, INSTRUCTIONS};
 use walk::{ImageRun, walk_image};
 
-// An object's header: four words, the lengths of its name and of its answers, the root, and how many lines at most.
-const HEADER: usize = 16;
-
-const ANSWERS: usize = 4;
-
-const ROOT: usize = 8;
-
-const LIMIT: usize = 12;
-
-// Its name and its answers.
+// An object's name and its answers.
 const WORDS: usize = 128;
 
 // The image, and the frames that each walk is lent.
@@ -37,249 +27,192 @@ const IMAGE: usize = 1024;
 
 const FRAMES: usize = 4;
 
-fn wide(x: u32) -> usize
-    ensures { result ≤ 0xFFFF_FFFF }
-{
-    x as usize
+// Why the objects end.
+#[derive(Clone, Copy, Debug)]
+enum Stop {
+    // no object is left, or one is cut short or does not fit
+    Ended,
+    // no line could be written
+    Failed(io::Error),
+}
+
+impl From<io::Error> for Stop {
+    fn from(why: io::Error) -> Stop {
+        Stop::Failed(why)
+    }
+}
+
+// An object's header: the lengths of its name and of its answers, the root, and how many lines at most.
+#[derive(Clone, Copy)]
+struct Header {
+    name: u32,
+    answers: u32,
+    root: u32,
+    limit: u32,
+}
+
+fn read_header(input: &mut impl io::Read) -> Result<Header, Stop> {
+    let mut bytes = [0u8; 16];
+    if take(input, &mut bytes).bytes < 16 {
+        return Err(Stop::Ended);
+    }
+    Ok(Header {
+        name: wire::u32_at(&bytes, 0),
+        answers: wire::u32_at(&bytes, 4),
+        root: wire::u32_at(&bytes, 8),
+        limit: wire::u32_at(&bytes, 12),
+    })
 }
 
 // Where a row's slots begin in table 6, which has so many rows at most.
 fn first_of(functions: &[u8], row: usize) -> usize {
     let mut first = 0;
-    let mut k = 0;
-    while k < row {
-        if k >= MOST_FUNCTIONS {
-            return first;
-        }
-        first += wide(slots_of(functions, k));
-        k += 1;
+    for k in 0..row.min(MOST_FUNCTIONS) {
+        first += slots_of(functions, k) as usize;
     }
     first
 }
 
-// The source walk after k steps.
-fn source_at(file: &[u8], instructions: &[u8], root: u32, answers: &[u8], k: usize) -> Place {
-    let mut frame_rows = [0usize; FRAMES];
-    let mut frame_slots = [0i64; FRAMES];
-    let run = walk_source(
-        table(file, files::CODE),
-        table(file, files::SYMBOLS),
-        table(file, files::FUNCTIONS),
-        table(file, files::RELOCATIONS),
-        instructions,
-        root,
-        &mut frame_rows,
-        &mut frame_slots,
-        answers,
-        k,
-    );
-    let SourceRun::Came(stand) = run else {
-        return show::nowhere(show::REFUSED);
-    };
-    source_place(stand)
-}
-
-// The image walk after k steps.
-fn image_at(image: &[u8], answers: &[u8], k: usize) -> Place {
-    let mut frames = [0i64; FRAMES];
-    let run = walk_image(image, &mut frames, answers, k);
-    let ImageRun::Came(stand) = run else {
-        return show::nowhere(show::TOO_LONG);
-    };
-    image_place(stand)
-}
-
-// Whether both stand.
-fn both(
-    rt: &impl Print,
-    file: &[u8],
-    instructions: &[u8],
+// An object, with its answers as the walks are lent them.
+#[derive(Clone, Copy)]
+struct Object<'a> {
+    file: &'a [u8],
+    answers: &'a [u8],
     root: u32,
-    image: &[u8],
-    answers: &[u8],
-    k: usize,
-) -> io::Result<bool> {
-    let here = source_at(file, instructions, root, answers, k);
-    let there = image_at(image, answers, k);
-    let first = first_of(table(file, files::FUNCTIONS), here.row);
-    let left = words_of(instructions, first, here.slot);
-    let right = words_of(image, 0, there.slot);
-    write_both(rt, k, here, left, there, right)?;
-    Ok((here.end == show::STANDS) & (there.end == show::STANDS))
+    limit: u32,
 }
 
-// Step by step, until one of the two walks does not stand.
-fn walks(
-    rt: &impl Print,
-    file: &[u8],
-    instructions: &[u8],
-    root: u32,
-    image: &[u8],
-    answers: &[u8],
-    limit: usize,
-) -> io::Result<()> {
-    say(rt, show::TITLE)?;
-    for k in 0..limit {
-        if !both(rt, file, instructions, root, image, answers, k)? {
-            break;
+impl Object<'_> {
+    // The source walk after k steps.
+    fn source_at(self, instructions: &[u8], k: usize) -> Place<InSource> {
+        let mut frame_rows = [0usize; FRAMES];
+        let mut frame_slots = [0i64; FRAMES];
+        let run = walk_source(
+            table(self.file, files::CODE),
+            table(self.file, files::SYMBOLS),
+            table(self.file, files::FUNCTIONS),
+            table(self.file, files::RELOCATIONS),
+            instructions,
+            self.root,
+            &mut frame_rows,
+            &mut frame_slots,
+            self.answers,
+            k,
+        );
+        match run {
+            SourceRun::Came(stand) => source_place(stand),
+            SourceRun::Refused(_) => Place {
+                at: None,
+                end: End::Refused,
+            },
         }
     }
-    Ok(())
-}
 
-fn bytes_of(slots: u32) -> u32 {
-    if slots > MOST_FUNCTION_SLOTS {
-        return 0;
+    // The image walk after k steps.
+    fn image_at(self, image: &[u8], k: usize) -> Place<InImage> {
+        let mut frames = [0i64; FRAMES];
+        match walk_image(image, &mut frames, self.answers, k) {
+            ImageRun::Came(stand) => image_place(stand),
+            ImageRun::TooLong => Place {
+                at: None,
+                end: End::TooLong,
+            },
+        }
     }
-    8 * slots
+
+    // Both after k steps.
+    fn line<'a>(self, instructions: &'a [u8], image: &'a [u8], step: usize) -> Line<'a> {
+        let source = self.source_at(instructions, step);
+        let linked = self.image_at(image, step);
+        let functions = table(self.file, files::FUNCTIONS);
+        Line {
+            step,
+            source,
+            source_bytes: match source.at {
+                Some(at) => slot_bytes(instructions, first_of(functions, at.row), at.slot),
+                None => None,
+            },
+            image: linked,
+            image_bytes: match linked.at {
+                Some(at) => slot_bytes(image, 0, at.slot),
+                None => None,
+            },
+        }
+    }
+
+    // Step by step, until one of the two walks does not stand.
+    fn walks(self, out: &mut impl Write, instructions: &[u8], image: &[u8]) -> io::Result<()> {
+        writeln!(out, " step |  row slot depth bytes | slot depth bytes")?;
+        for step in 0..self.limit as usize {
+            let line = self.line(instructions, image, step);
+            writeln!(out, "{line}")?;
+            if line.source.end != End::Stands || line.image.end != End::Stands {
+                break;
+            }
+        }
+        Ok(())
+    }
+
+    // The map step, then the link, then both walks.
+    fn run(self, out: &mut impl Write, instructions: &mut [u8]) -> io::Result<()> {
+        let Answer::Done(_) = steps::map_step(self.file, instructions) else {
+            return writeln!(out, "the map step refuses");
+        };
+        let mut image = [0u8; IMAGE];
+        let mut func_info = [0u8; 8];
+        let mut line_info = [0u8; 8];
+        let made = steps::link(
+            self.file,
+            instructions,
+            self.root,
+            &mut image,
+            &mut func_info,
+            &mut line_info,
+        );
+        let Answer::Done(counts) = made else {
+            return writeln!(out, "the link refuses");
+        };
+        let used = IMAGE.min(INSTRUCTION_SIZE * counts.0 as usize);
+        self.walks(out, instructions, &image[..used])
+    }
 }
 
-// The link, then both walks.
-fn linked(
-    rt: &impl Print,
-    file: &[u8],
-    instructions: &[u8],
-    answers: &[u8],
-    root: u32,
-    limit: usize,
-) -> io::Result<()> {
-    let mut image = [0u8; IMAGE];
-    let mut func_info = [0u8; 8];
-    let mut line_info = [0u8; 8];
-    let made = steps::link(
-        file,
-        instructions,
-        root,
-        &mut image,
-        &mut func_info,
-        &mut line_info,
-    );
-    let Answer::Done(counts) = made else {
-        return say(rt, show::NO_LINK);
+fn one_object(input: &mut impl io::Read, out: &mut impl Write) -> Result<(), Stop> {
+    let header = read_header(input)?;
+    let mut words = [0u8; WORDS];
+    let all = header.name as usize + header.answers as usize;
+    let Got::All = fill(input, &mut words, 0, all) else {
+        return Err(Stop::Ended);
     };
-    let slots = counts.0;
-    let used = (bytes_of(slots) as usize).min(image.len());
-    walks(rt, file, instructions, root, &image[..used], answers, limit)
-}
-
-// The map step, then the link.
-fn mapped(
-    rt: &impl Print,
-    file: &[u8],
-    instructions: &mut [u8],
-    answers: &[u8],
-    root: u32,
-    limit: usize,
-) -> io::Result<()> {
-    let answer = steps::map_step(file, instructions);
-    let Answer::Done(_) = answer else {
-        return say(rt, show::NO_MAPS);
-    };
-    linked(rt, file, instructions, answers, root, limit)
-}
-
-// A header by value, and how many of its bytes the input had.
-#[derive(Clone, Copy)]
-struct Header {
-    bytes: [u8; HEADER],
-    got: usize,
-}
-
-fn read_header(input: &mut impl io::Read) -> Header
-    ensures { result.got ≤ 16 }
-{
-    let mut bytes = [0u8; HEADER];
-    let got = take(input, &mut bytes).bytes;
-    Header { bytes, got }
-}
-
-fn word(header: [u8; HEADER], at: usize) -> u32
-    requires { at ≤ 12 }
-    ensures { result ≡ u32_at little header at }
-{
-    wire::u32_at(&header, at)
-}
-
-// An object's name and its answers, by value.
-#[derive(Clone, Copy)]
-struct Names {
-    bytes: [u8; WORDS],
-    all: bool,
-}
-
-fn read_names(input: &mut impl io::Read, n: usize) -> Names {
-    let mut bytes = [0u8; WORDS];
-    let got = fill(input, &mut bytes, 0, n);
-    let Got::All = got else {
-        return Names { bytes, all: false };
-    };
-    Names { bytes, all: true }
-}
-
-// Whether the tables were had whole.
-fn read_object(
-    input: &mut impl io::Read,
-    file: &mut [u8; FILE],
-    instructions: &mut [u8; INSTRUCTIONS],
-) -> bool
-    ensures { (length file.new ≡ file_room) × (length instructions.new ≡ instructions_room) }
-{
-    let read = read_tables(input, true, file, instructions);
-    if let Read::Whole = read { true } else { false }
-}
-
-// The rest of an object. `names` has its name and its answers.
-fn object(
-    rt: &impl Print,
-    input: &mut impl io::Read,
-    header: [u8; HEADER],
-    names: &[u8],
-) -> io::Result<bool> {
     let mut file = [0u8; FILE];
     let mut instructions = [0u8; INSTRUCTIONS];
-    if !read_object(input, &mut file, &mut instructions) {
-        return Ok(false);
-    }
-    let m = (word(header, 0) as usize).min(names.len());
-    rt.write_all(&names[..m])?;
-    say(rt, show::END)?;
-    let k = (length_of(&file, files::INSTRUCTIONS) as usize).min(instructions.len());
-    mapped(
-        rt,
-        &file,
-        &mut instructions[..k],
-        &names[m..],
-        word(header, ROOT),
-        word(header, LIMIT) as usize,
-    )?;
-    say(rt, show::END)?;
-    Ok(true)
-}
-
-// False where the input has ended, or an object is cut short or does not fit.
-fn one_object(rt: &impl Print, input: &mut impl io::Read) -> io::Result<bool> {
-    let read = read_header(input);
-    let got = read.got;
-    let header = read.bytes;
-    if got < HEADER {
-        return Ok(false);
-    }
-    let both = word(header, 0) as usize + word(header, ANSWERS) as usize;
-    let named = read_names(input, both);
-    let names = named.bytes;
-    if !named.all {
-        return Ok(false);
-    }
-    let k = both.min(names.len());
-    object(rt, input, header, &names[..k])
+    let Read::Whole = read_tables(input, true, &mut file, &mut instructions) else {
+        return Err(Stop::Ended);
+    };
+    let (name, answers) = words[..WORDS.min(all)].split_at(WORDS.min(header.name as usize));
+    let object = Object {
+        file: &file,
+        answers,
+        root: header.root,
+        limit: header.limit,
+    };
+    let n = INSTRUCTIONS.min(length_of(&file, files::INSTRUCTIONS) as usize);
+    out.write_all(name)?;
+    writeln!(out)?;
+    object.run(out, &mut instructions[..n])?;
+    writeln!(out)?;
+    Ok(())
 }
 
 // A proved loop has to end, and nothing says that the input does. So the objects are counted, up to a number that no run reaches.
 fn main(rt: HostRuntime) -> io::Result<()> {
     let mut input = rt.reader();
+    let mut out = io::writer(&rt);
     for _ in 0..u64::MAX {
-        if !one_object(&rt, &mut input)? {
-            break;
+        match one_object(&mut input, &mut out) {
+            Ok(()) => {}
+            Err(Stop::Ended) => break,
+            Err(Stop::Failed(why)) => return Err(why),
         }
     }
     Ok(())

@@ -1,270 +1,197 @@
 // What a line says of the two walks.
-ghost use Rattle.std.specs.Prelude.{◌≡◌};
-ghost use Rattle.paths.specs.Shown.{small_of, nowhere_at, slot_shown, source_by, image_by, source_shown, image_shown, WordsOf};
+ghost use Rattle.std.specs.Prelude.{◌≡◌, ◌+◌, Some};
+ghost use Rattle.paths.specs.Shown.{source_shown, image_shown, SlotIn, end_text, source_text, image_text, bytes_text, where_text, line_text};
 
 use rules::Found;
 use rules::limits::INSTRUCTION_SIZE;
 use source::SourceStand;
-use std::io;
-use tell::lines::spoken_line;
+use std::fmt;
+use std::fmt::{Display, Formatter, Write};
 use walk::{Stand, slot_in};
-use wire::u32_at;
 
-// The text's lines.
-pub const TITLE: usize = 0;
-
-pub const STEP: usize = 1;
-
-pub const SOURCE: usize = 2;
-
-pub const IMAGE: usize = 3;
-
-pub const BYTES: usize = 4;
-
-pub const STANDS: usize = 5;
-
-pub const BAR: usize = 6;
-
-pub const END: usize = 7;
-
-pub const STOPPED: usize = 8;
-
-pub const ENDED: usize = 9;
-
-pub const LEFT: usize = 10;
-
-pub const NO_FRAME: usize = 11;
-
-pub const REFUSED: usize = 12;
-
-pub const TOO_LONG: usize = 13;
-
-pub const NO_LINK: usize = 14;
-
-pub const NO_MAPS: usize = 15;
-
-pub const TEXT: [u8; 175] = *b" step |  row slot depth bytes | slot depth bytes^
- ~ |
- ~ ~ ~
- ~ ~
-  $$
-
- |
-^
-  stopped
-  ended
-  left
-  no frame
-  refused
-  too long
-the link refuses^
-the map step refuses^
-";
-
-// The greatest number that a line shows.
+// A line shows slots below this number.
 const MOST_SHOWN: u32 = 0xFFFF_FFFF;
 
-// The slot of a walk that is nowhere.
-const NO_SLOT: usize = MOST_SHOWN as usize;
+// How a walk goes on.
+#[derive(Clone, Copy, Debug, PartialEq, Eq)]
+pub enum End {
+    Stands,
+    Stopped,
+    Ended,
+    Left,
+    NoFrame,
+    // the tables are refused
+    Refused,
+    // the image has too many slots
+    TooLong,
+}
 
-// Where a walk is: the line for its numbers, the numbers, its row and slot, and the line for how it goes on.
-#[derive(Clone, Copy)]
-pub struct Place {
-    pub words: usize,
-    pub a: u32,
-    pub b: u32,
-    pub c: u32,
+impl Display for End {
+    ghost output = { λ e. Some (end_text e) };
+
+    fn fmt<W: fmt::Write>(&self, f: &mut Formatter<W>) -> fmt::Result {
+        match self {
+            End::Stands => Ok(()),
+            End::Stopped => write!(f, "  stopped"),
+            End::Ended => write!(f, "  ended"),
+            End::Left => write!(f, "  left"),
+            End::NoFrame => write!(f, "  no frame"),
+            End::Refused => write!(f, "  refused"),
+            End::TooLong => write!(f, "  too long"),
+        }
+    }
+}
+
+// A place of the source walk.
+#[derive(Clone, Copy, Debug, PartialEq, Eq)]
+pub struct InSource {
     pub row: usize,
     pub slot: usize,
-    pub end: usize,
+    pub depth: usize,
 }
 
-pub fn small(n: usize) -> u32
-    ensures { result ≡ small_of n }
-{
-    if n > MOST_SHOWN as usize {
-        return MOST_SHOWN;
-    }
-    n as u32
-}
+impl Display for InSource {
+    ghost output = { λ s. Some (source_text s) };
 
-// A walk that is nowhere, and why.
-pub fn nowhere(end: usize) -> Place
-    ensures { result ≡ nowhere_at end }
-{
-    Place {
-        words: STANDS,
-        a: 0,
-        b: 0,
-        c: 0,
-        row: 0,
-        slot: NO_SLOT,
-        end,
+    fn fmt<W: fmt::Write>(&self, f: &mut Formatter<W>) -> fmt::Result {
+        let InSource { row, slot, depth } = *self;
+        write!(f, " {row:4} {slot:4} {depth:4}")
     }
 }
 
-fn in_source(row: usize, at: i64, depth: usize, end: usize) -> Place
-    ensures { result ≡ source_by (slot_shown at) row depth end }
-{
-    let Found::At(slot) = slot_in(at, MOST_SHOWN) else {
-        return nowhere(end);
-    };
-    Place {
-        words: SOURCE,
-        a: small(row),
-        b: small(slot),
-        c: small(depth),
-        row,
-        slot,
-        end,
+// A place of the image walk.
+#[derive(Clone, Copy, Debug, PartialEq, Eq)]
+pub struct InImage {
+    pub slot: usize,
+    pub depth: usize,
+}
+
+impl Display for InImage {
+    ghost output = { λ s. Some (image_text s) };
+
+    fn fmt<W: fmt::Write>(&self, f: &mut Formatter<W>) -> fmt::Result {
+        let InImage { slot, depth } = *self;
+        write!(f, " {slot:4} {depth:4}")
     }
 }
 
-fn in_image(at: i64, depth: usize, end: usize) -> Place
-    ensures { result ≡ image_by (slot_shown at) depth end }
-{
-    let Found::At(slot) = slot_in(at, MOST_SHOWN) else {
-        return nowhere(end);
-    };
-    Place {
-        words: IMAGE,
-        a: small(slot),
-        b: small(depth),
-        c: 0,
-        row: 0,
-        slot,
-        end,
-    }
+// Where a walk is, if it is at a slot that a line shows, and how it goes on.
+#[derive(Clone, Copy)]
+pub struct Place<P> {
+    pub at: Option<P>,
+    pub end: End,
 }
 
-pub fn source_place(stand: SourceStand) -> Place
+pub fn source_place(stand: SourceStand) -> Place<InSource>
     ensures { result ≡ source_shown stand }
 {
-    match stand {
-        SourceStand::Standing(row, at, depth, _) => in_source(row, at, depth, STANDS),
-        SourceStand::Stopped(row, at, depth) => in_source(row, at, depth, STOPPED),
-        SourceStand::Ended(row, at) => in_source(row, at, 0, ENDED),
-        SourceStand::Left => nowhere(LEFT),
-        SourceStand::NoFrame => nowhere(NO_FRAME),
-    }
+    let (row, at, depth, end) = match stand {
+        SourceStand::Standing(row, at, depth, _) => (row, at, depth, End::Stands),
+        SourceStand::Stopped(row, at, depth) => (row, at, depth, End::Stopped),
+        SourceStand::Ended(row, at) => (row, at, 0, End::Ended),
+        SourceStand::Left => return Place {
+            at: None,
+            end: End::Left,
+        },
+        SourceStand::NoFrame => return Place {
+            at: None,
+            end: End::NoFrame,
+        },
+    };
+    let at = match slot_in(at, MOST_SHOWN) {
+        Found::At(slot) => Some(InSource { row, slot, depth }),
+        Found::Nothing => None,
+    };
+    Place { at, end }
 }
 
-pub fn image_place(stand: Stand) -> Place
+pub fn image_place(stand: Stand) -> Place<InImage>
     ensures { result ≡ image_shown stand }
 {
-    match stand {
-        Stand::Standing(at, depth, _) => in_image(at, depth, STANDS),
-        Stand::Stopped(at, depth) => in_image(at, depth, STOPPED),
-        Stand::Ended(at) => in_image(at, 0, ENDED),
-        Stand::Left => nowhere(LEFT),
-        Stand::NoFrame => nowhere(NO_FRAME),
-    }
+    let (at, depth, end) = match stand {
+        Stand::Standing(at, depth, _) => (at, depth, End::Stands),
+        Stand::Stopped(at, depth) => (at, depth, End::Stopped),
+        Stand::Ended(at) => (at, 0, End::Ended),
+        Stand::Left => return Place {
+            at: None,
+            end: End::Left,
+        },
+        Stand::NoFrame => return Place {
+            at: None,
+            end: End::NoFrame,
+        },
+    };
+    let at = match slot_in(at, MOST_SHOWN) {
+        Found::At(slot) => Some(InImage { slot, depth }),
+        Found::Nothing => None,
+    };
+    Place { at, end }
 }
 
-// The two words of a slot, and the line that shows them.
-#[derive(Clone, Copy)]
-pub struct Words {
-    pub line: usize,
-    pub low: u32,
-    pub high: u32,
-}
-
-// Of a function that begins at `first` in some code, where the code has the slot.
-pub fn words_of(code: &[u8], first: usize, slot: usize) -> Words
-    ensures { WordsOf code.now first slot result.line result.low result.high }
+// The bytes of a slot of a function that begins at `first` in some code, where the code has it.
+pub fn slot_bytes(code: &[u8], first: usize, slot: usize) -> Option<&[u8]>
+    ensures { SlotIn code.now (first + slot) result }
 {
-    let n = code.len() / INSTRUCTION_SIZE;
-    if first >= n {
-        return Words {
-            line: STANDS,
-            low: 0,
-            high: 0,
+    let at = first.checked_add(slot)?.checked_mul(INSTRUCTION_SIZE)?;
+    code.get(at..)?.get(..INSTRUCTION_SIZE)
+}
+
+// A slot's bytes, in hexadecimal; nothing where there are none.
+#[derive(Clone, Copy)]
+struct Bytes<'a>(Option<&'a [u8]>);
+
+impl Display for Bytes<'_> {
+    ghost output = { λ b. Some (bytes_text b.0) };
+
+    fn fmt<W: fmt::Write>(&self, f: &mut Formatter<W>) -> fmt::Result {
+        let Some(bytes) = self.0 else {
+            return Ok(());
         };
-    }
-    if slot >= n - first {
-        return Words {
-            line: STANDS,
-            low: 0,
-            high: 0,
-        };
-    }
-    let at = INSTRUCTION_SIZE * (first + slot);
-    Words {
-        line: BYTES,
-        low: u32_at(code, at),
-        high: u32_at(code, at + 4),
+        write!(f, "  ")?;
+        for &b in bytes {
+            write!(f, "{b:02x}")?;
+        }
+        Ok(())
     }
 }
 
-fn write(rt: &impl Print, lines: [usize; 9], numbers: [u32; 27]) -> io::Result<()> {
-    let text = TEXT;
-    let words = spoken_line(&text, &lines, &numbers);
-    let bytes = words.bytes;
-    let n = words.used;
-    rt.write_all(&bytes[..n])
+// Both walks after so many steps, with the bytes of the slots where they are.
+#[derive(Clone, Copy)]
+pub struct Line<'a> {
+    pub step: usize,
+    pub source: Place<InSource>,
+    pub source_bytes: Option<&'a [u8]>,
+    pub image: Place<InImage>,
+    pub image_bytes: Option<&'a [u8]>,
 }
 
-// Both walks in one line.
-pub fn write_both(
-    rt: &impl Print,
-    k: usize,
-    here: Place,
-    left: Words,
-    there: Place,
-    right: Words,
-) -> io::Result<()> {
-    write(
-        rt,
-        [
-            STEP,
-            here.words,
-            left.line,
-            here.end,
-            BAR,
-            there.words,
-            right.line,
-            there.end,
-            END,
-        ],
-        [
-            small(k),
-            0,
-            0,
-            here.a,
-            here.b,
-            here.c,
-            left.low,
-            left.high,
-            0,
-            0,
-            0,
-            0,
-            0,
-            0,
-            0,
-            there.a,
-            there.b,
-            there.c,
-            right.low,
-            right.high,
-            0,
-            0,
-            0,
-            0,
-            0,
-            0,
-            0,
-        ],
-    )
+// What is there, or nothing.
+#[derive(Clone, Copy)]
+struct Where<P>(Option<P>);
+
+impl<P: Display> Display for Where<P> {
+    ghost output = { λ w. where_text P.output w.0 };
+
+    fn fmt<W: fmt::Write>(&self, f: &mut Formatter<W>) -> fmt::Result {
+        match &self.0 {
+            Some(at) => write!(f, "{at}"),
+            None => Ok(()),
+        }
+    }
 }
 
-// A line of the text alone.
-pub fn say(rt: &impl Print, k: usize) -> io::Result<()> {
-    write(
-        rt,
-        [
-            k, STANDS, STANDS, STANDS, STANDS, STANDS, STANDS, STANDS, STANDS,
-        ],
-        [0; 27],
-    )
+impl Display for Line<'_> {
+    ghost output = { λ l. Some (line_text l) };
+
+    fn fmt<W: fmt::Write>(&self, f: &mut Formatter<W>) -> fmt::Result {
+        let step = self.step;
+        let at = Where(self.source.at);
+        let bytes = Bytes(self.source_bytes);
+        let end = self.source.end;
+        write!(f, " {step:4} |{at}{bytes}{end}")?;
+        let at = Where(self.image.at);
+        let bytes = Bytes(self.image_bytes);
+        let end = self.image.end;
+        write!(f, " |{at}{bytes}{end}")
+    }
 }

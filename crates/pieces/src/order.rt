@@ -23,7 +23,7 @@ fn find_start(starts: &[u16], at: u16) -> Option<usize>
 }
 
 // The root at 0, then each function that starts where the piece before it ends, up to the image's end; gives how many. At most as many follow
-// the root as table 3 has rows.
+// the root as table 3 has rows. The starts are an array of fixed size, for want of a heap: as many of them count as table 3 has rows.
 pub fn put_list(
     functions: &[u8],
     starts: &[u16; MOST_FUNCTIONS],

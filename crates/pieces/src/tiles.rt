@@ -11,6 +11,7 @@ use rows::fields::function_slots;
 use rules::limits::{FUNCTION_SIZE, PIECE_SIZE};
 use rules::{Cause, Refusal, Slot};
 
+// Of fields in bytes: no type has them to derive an equality for.
 fn is_piece(t: &[u8], k: usize, row: u32, place: u64) -> bool
     requires { piece_size * k + piece_size ≤ length t.now }
     ensures { result ≡ (eqb (piece_row t.now k) row && eqb (piece_start t.now k) place) }
@@ -28,7 +29,7 @@ pub fn check_root(pieces: &[u8], root: u32) -> Result<(), Refusal>
     Err(refusal(Cause::RootNotFirst, 0, 0))
 }
 
-// Table 3 alone decides.
+// Table 3 alone decides. `at` adds up counts, so it is a u32: only insn makes a Slot of a number (docs/DECISIONS.md).
 pub fn check_tiles(functions: &[u8], pieces: &[u8], end: Slot) -> Result<(), Refusal>
     requires { Tileable functions.now pieces.now }
     ensures { refusal_in result ≡ tiles_wrong (functions_only functions.now) end.0 0 0 (pieces_of pieces.now) }
@@ -52,7 +53,7 @@ pub fn check_tiles(functions: &[u8], pieces: &[u8], end: Slot) -> Result<(), Ref
     Err(refusal(Cause::EndsElsewhere, n as u32, at))
 }
 
-// How many pieces start before a slot of the image.
+// How many pieces start before a slot of the image. That the starts rise stays a clause here and of starts_at, which docs/CLAIMS.md names.
 fn starts_before(pieces: &[u8], place: u64) -> usize
     requires { StartsRise pieces.now }
     ensures { (result ≡ starts_before pieces.now place) × (result ≤ listed pieces.now) }

@@ -6,199 +6,134 @@ mod input;
 mod run;
 mod show;
 
+ghost use Rattle.std.specs.Prelude.{◌≡◌, ◌<◌, IfOk, replicate};
+ghost use Rattle.replay.specs.Input.{word_at};
+
 use input::{
-    COUNT, DATA, FILE, HEADER, INSTRUCTIONS, KIND, OUT, OUT_FUNC_INFO, OUT_LINE_INFO, PLACES, ROOT,
-    SIZE, TABLE_6, data, part, read_case, read_header, word,
+    COUNT, DATA, FILE, Header, INSTRUCTIONS, Info, Kind, OUT, OUT_FUNC_INFO, OUT_LINE_INFO, PLACES,
+    ROOT, SIZE, Stop, TABLE_6, data, read_case, read_header,
 };
+use run::Given;
+use show::Answer;
+use std::alloc::{AllocError, Global};
 use std::io;
-
-const MAGIC: u32 = 0x4B52_4142;
-
-// The room for the outputs.
-const IMAGE: usize = 33_000;
-
-const FUNCS: usize = 2_100;
-
-const LINES: usize = 66_000;
-
-const PLACE_BYTES: usize = 16;
+use std::io::Write;
 
 // Outputs are lent with this byte throughout, which no answer leaves where it promises others.
 const UNTOUCHED: u8 = 0xEE;
 
-fn bad(rt: &impl Print) -> io::Result<bool> {
-    rt.write_all(b"bad case\n")?;
-    Ok(false)
+// An output of the length that word i of a header asks for.
+fn lent(alloc: Global, header: &Header, i: usize) -> Result<Vec<u8>, AllocError>
+    requires { i < 24 }
+    ensures { IfOk result (λ output. output.items ≡ replicate (word_at header.now.bytes i) 0xEE) }
+{
+    vec![in alloc; UNTOUCHED; header.word(i) as usize]
 }
 
-// Whether the outputs that a case asks for are as long as the program has them.
-fn has_room(header: [u8; HEADER]) -> bool {
-    let out = word(header, OUT) as usize;
-    ((out <= IMAGE) | ((word(header, KIND) != 1) & (out <= LINES)))
-        & (word(header, OUT_FUNC_INFO) as usize <= FUNCS)
-        & (word(header, OUT_LINE_INFO) as usize <= LINES)
-        & (word(header, PLACES) as usize <= PLACE_BYTES)
-}
-
-// With the outputs cut to what the case asks for.
-fn link(
-    rt: &impl Print,
-    index: u64,
-    header: [u8; HEADER],
-    file: &[u8],
-    instructions: &[u8],
-) -> io::Result<()> {
-    let mut image = [UNTOUCHED; IMAGE];
-    let mut funcs = [UNTOUCHED; FUNCS];
-    let mut lines = [UNTOUCHED; LINES];
-    let mut places = [UNTOUCHED; PLACE_BYTES];
-    let n = part(header, INSTRUCTIONS, instructions.len());
-    let a = part(header, OUT, IMAGE);
-    let b = part(header, OUT_FUNC_INFO, FUNCS);
-    let c = part(header, OUT_LINE_INFO, LINES);
-    let p = part(header, PLACES, PLACE_BYTES);
-    let number = run::link(
-        file,
-        &instructions[..n],
-        word(header, ROOT),
-        &mut image[..a],
-        &mut funcs[..b],
-        &mut lines[..c],
-        &mut places[..p],
-    );
-    show::link(
-        rt,
-        index,
-        number,
-        &places[..p],
-        &image[..a],
-        &funcs[..b],
-        &lines[..c],
-    )
-}
-
-fn map_step(
-    rt: &impl Print,
-    index: u64,
-    header: [u8; HEADER],
-    file: &[u8],
-    instructions: &mut [u8],
-) -> io::Result<()> {
-    let mut places = [UNTOUCHED; PLACE_BYTES];
-    let n = part(header, INSTRUCTIONS, instructions.len());
-    let p = part(header, PLACES, PLACE_BYTES);
-    let number = run::map_step(file, &mut instructions[..n], &mut places[..p]);
-    show::bytes(rt, index, 2, number, &places[..p], &instructions[..n])
-}
-
-// The readers of all records.
-fn records(
-    rt: &impl Print,
-    index: u64,
-    header: [u8; HEADER],
-    kind: u32,
-    bytes: &[u8],
-) -> io::Result<()> {
-    let mut out = [UNTOUCHED; LINES];
-    let mut places = [UNTOUCHED; PLACE_BYTES];
-    let m = part(header, OUT, LINES);
-    let p = part(header, PLACES, PLACE_BYTES);
-    let number = run::records(
-        kind,
-        word(header, SIZE),
-        word(header, COUNT),
-        bytes,
-        &mut out[..m],
-        &mut places[..p],
-    );
-    show::bytes(rt, index, kind, number, &places[..p], &out[..m])
-}
-
-// The readers of one record.
-fn record(
-    rt: &impl Print,
-    index: u64,
-    header: [u8; HEADER],
-    kind: u32,
-    bytes: &[u8],
-) -> io::Result<()> {
-    let mut places = [UNTOUCHED; PLACE_BYTES];
-    let p = part(header, PLACES, PLACE_BYTES);
-    let size = word(header, SIZE);
-    let count = word(header, COUNT);
-    let k = word(header, ROOT);
-    let number = run::record(kind, size, count, bytes, k, &mut places[..p]);
-    let found = run::record_bytes(kind == 5, size, count, bytes, k);
-    show::record(rt, index, kind, number, &places[..p], found)
-}
-
-// The four kinds of the readers. False where the kind is none.
-fn reader(
-    rt: &impl Print,
-    index: u64,
-    header: [u8; HEADER],
-    file: &[u8; FILE],
-) -> io::Result<bool> {
-    let kind = word(header, KIND);
-    let bytes = data(file, word(header, DATA) as usize);
-    if (kind == 3) | (kind == 4) {
-        records(rt, index, header, kind, bytes)?;
-        return Ok(true);
-    }
-    if (kind == 5) | (kind == 6) {
-        record(rt, index, header, kind, bytes)?;
-        return Ok(true);
-    }
-    bad(rt)
-}
-
-// A case, after its header.
+// A case after its header, and the line of what it answers.
 fn run_case(
-    rt: &impl Print,
+    alloc: Global,
     input: &mut impl io::Read,
+    out: &mut impl io::Write,
     index: u64,
-    header: [u8; HEADER],
-) -> io::Result<bool> {
+    header: &Header,
+) -> Result<(), Stop> {
     let mut file = [0u8; FILE];
     let mut instructions = [0u8; TABLE_6];
-    if !read_case(input, header, &mut file, &mut instructions) {
-        return bad(rt);
+    read_case(input, header, &mut file, &mut instructions)?;
+    let n = header.part(INSTRUCTIONS, TABLE_6);
+    let mut places = lent(alloc, header, PLACES)?;
+    let kind = header.kind;
+    match kind {
+        Kind::Link => {
+            let mut image = lent(alloc, header, OUT)?;
+            let mut funcs = lent(alloc, header, OUT_FUNC_INFO)?;
+            let mut lines = lent(alloc, header, OUT_LINE_INFO)?;
+            let number = run::link(
+                &file,
+                &instructions[..n],
+                header.word(ROOT),
+                &mut image,
+                &mut funcs,
+                &mut lines,
+                &mut places,
+            );
+            let answer = Answer {
+                index,
+                kind,
+                number,
+                places: &places,
+            };
+            show::link(out, answer, &image, &funcs, &lines)?;
+        }
+        Kind::MapStep => {
+            let number = run::map_step(&file, &mut instructions[..n], &mut places);
+            let answer = Answer {
+                index,
+                kind,
+                number,
+                places: &places,
+            };
+            show::output(out, answer, &instructions[..n])?;
+        }
+        Kind::Records(info) => {
+            let mut records = lent(alloc, header, OUT)?;
+            let number = given(header, info, &file).all(&mut records, &mut places);
+            let answer = Answer {
+                index,
+                kind,
+                number,
+                places: &places,
+            };
+            show::output(out, answer, &records)?;
+        }
+        Kind::Record(info) => {
+            let k = header.word(ROOT);
+            let given = given(header, info, &file);
+            let number = given.number(k, &mut places);
+            let answer = Answer {
+                index,
+                kind,
+                number,
+                places: &places,
+            };
+            show::record(out, answer, given.record(k))?;
+        }
     }
-    let kind = word(header, KIND);
-    if kind == 1 {
-        link(rt, index, header, &file, &instructions)?;
-        return Ok(true);
-    }
-    if kind == 2 {
-        map_step(rt, index, header, &file, &mut instructions)?;
-        return Ok(true);
-    }
-    reader(rt, index, header, &file)
+    Ok(())
 }
 
-// One case. False at the end of the input, and at a case that is cut short or does not fit.
-fn one_case(rt: &impl Print, input: &mut impl io::Read, index: u64) -> io::Result<bool> {
-    let read = read_header(input);
-    let got = read.got;
-    let header = read.bytes;
-    if got == 0 {
-        return Ok(false);
+// What a reader is given.
+fn given<'a>(header: &Header, info: Info, file: &'a [u8; FILE]) -> Given<'a> {
+    Given {
+        info,
+        size: header.word(SIZE),
+        count: header.word(COUNT),
+        bytes: data(file, header.word(DATA) as usize),
     }
-    if (got < HEADER) | (word(header, 0) != MAGIC) {
-        return bad(rt);
-    }
-    if !has_room(header) {
-        return bad(rt);
-    }
-    run_case(rt, input, index, header)
+}
+
+// The next case, and its line.
+fn one_case(
+    alloc: Global,
+    input: &mut impl io::Read,
+    out: &mut impl io::Write,
+    index: u64,
+) -> Result<(), Stop> {
+    let header = read_header(input)?;
+    run_case(alloc, input, out, index, &header)
 }
 
 // A proved loop has to end, and nothing says that the input does. So the cases are counted, up to a number that no run reaches.
 fn main(rt: HostRuntime) -> io::Result<()> {
     let mut input = rt.reader();
+    let mut out = io::writer(&rt);
     for index in 0..u64::MAX {
-        if !one_case(&rt, &mut input, index)? {
-            break;
+        match one_case(rt.alloc(), &mut input, &mut out, index) {
+            Ok(()) => {}
+            Err(Stop::Ended) => break,
+            Err(Stop::Bad) => return writeln!(out, "bad case"),
+            Err(Stop::Failed(why)) => return Err(why),
         }
     }
     Ok(())

@@ -1,5 +1,5 @@
 // Each kind of case, on exactly the bytes that it lends.
-ghost use Rattle.std.specs.Prelude.{◌≡◌, eqb, length};
+ghost use Rattle.std.specs.Prelude.{◌≡◌, length};
 ghost use Rattle.rules.specs.Bytes.{little};
 ghost use Rattle.rules.specs.Entries.{link_entry, map_entry};
 ghost use Rattle.rules.specs.Readers.{read_records, record_reply, record_part};
@@ -10,6 +10,7 @@ ghost use Rattle.clerk.specs.Steps.{held_offer, held_maps};
 ghost use Rattle.replay.specs.Input.{info_of};
 ghost use Rattle.barkruffle.specs.Promises.{LinkTold, MapTold, ReadTold};
 
+use crate::input::Info;
 use barkruffle::{
     barkruffle_func_info, barkruffle_func_info_record_number, barkruffle_line_info,
     barkruffle_line_info_record_number, barkruffle_link, barkruffle_relocate_maps,
@@ -73,68 +74,82 @@ pub fn map_step(file: &[u8], instructions: &mut [u8], places: &mut [u8]) -> u32
     )
 }
 
-fn read_records(
-    func: bool,
-    size: u32,
-    count: u32,
-    bytes: &[u8],
-    out: &mut [u8],
-    places: &mut [u8],
-) -> u32
-    ensures { ReadTold
-        places.old
-        places.new
-        out.new
-        result
-        (read_records little (info_of func) (given size count bytes.now) (length out.old)) }
-{
-    if func {
-        return barkruffle_func_info(size, count, bytes, out, places);
+// What a reader is given: of which records, their size, how many, and their bytes.
+#[derive(Clone, Copy)]
+pub struct Given<'a> {
+    pub info: Info,
+    pub size: u32,
+    pub count: u32,
+    pub bytes: &'a [u8],
+}
+
+impl<'a> Given<'a> {
+    // All records.
+    pub fn all(&self, out: &mut [u8], places: &mut [u8]) -> u32
+        ensures { ReadTold
+            places.old
+            places.new
+            out.new
+            result
+            (read_records
+            little
+            (info_of self.now.info)
+            (given self.now.size self.now.count self.now.bytes.now)
+            (length out.old)) }
+    {
+        let Given {
+            info,
+            size,
+            count,
+            bytes,
+        } = *self;
+        match info {
+            Info::Func => barkruffle_func_info(size, count, bytes, out, places),
+            Info::Line => barkruffle_line_info(size, count, bytes, out, places),
+        }
     }
-    barkruffle_line_info(size, count, bytes, out, places)
-}
 
-// All records: kind 3, of struct bpf_func_info, or kind 4, of struct bpf_line_info.
-pub fn records(
-    kind: u32,
-    size: u32,
-    count: u32,
-    bytes: &[u8],
-    out: &mut [u8],
-    places: &mut [u8],
-) -> u32
-    ensures { ReadTold
-        places.old
-        places.new
-        out.new
-        result
-        (read_records little (info_of (eqb kind 3)) (given size count bytes.now) (length out.old)) }
-{
-    read_records(kind == 3, size, count, bytes, out, places)
-}
-
-fn record_number(func: bool, size: u32, count: u32, bytes: &[u8], k: u32, places: &mut [u8]) -> u32
-    ensures { Told places.old places.new result (record_reply little (info_of func) (given size count bytes.now) k) }
-{
-    if func {
-        return barkruffle_func_info_record_number(size, count, bytes, k, places);
+    // The number of record k.
+    pub fn number(&self, k: u32, places: &mut [u8]) -> u32
+        ensures { Told
+            places.old
+            places.new
+            result
+            (record_reply
+            little
+            (info_of self.now.info)
+            (given self.now.size self.now.count self.now.bytes.now)
+            k) }
+    {
+        let Given {
+            info,
+            size,
+            count,
+            bytes,
+        } = *self;
+        match info {
+            Info::Func => barkruffle_func_info_record_number(size, count, bytes, k, places),
+            Info::Line => barkruffle_line_info_record_number(size, count, bytes, k, places),
+        }
     }
-    barkruffle_line_info_record_number(size, count, bytes, k, places)
-}
 
-// A record's bytes.
-pub fn record_bytes(func: bool, size: u32, count: u32, bytes: &[u8], k: u32) -> &[u8]
-    ensures { result.now ≡ record_part little (info_of func) (given size count bytes.now) k }
-{
-    if func {
-        return func_info_record(size, count, bytes, k);
+    // Its bytes.
+    pub fn record(&self, k: u32) -> &'a [u8]
+        ensures { result.now ≡ record_part
+            little
+            (info_of self.now.info)
+            (given self.now.size self.now.count self.now.bytes.now)
+            k }
+    {
+        let Given {
+            info,
+            size,
+            count,
+            bytes,
+        } = *self;
+        match info {
+            Info::Func => func_info_record(size, count, bytes, k),
+            Info::Line => line_info_record(size, count, bytes, k),
+        }
     }
-    line_info_record(size, count, bytes, k)
-}
-
-// The number of record k: kind 5, of struct bpf_func_info, or kind 6, of struct bpf_line_info.
-pub fn record(kind: u32, size: u32, count: u32, bytes: &[u8], k: u32, places: &mut [u8]) -> u32
-    ensures { Told places.old places.new result (record_reply little (info_of (eqb kind 5)) (given size count bytes.now) k) }
-{
-    record_number(kind == 5, size, count, bytes, k, places)
 }

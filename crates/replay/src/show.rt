@@ -1,89 +1,92 @@
 // A line of the output: index, kind and number, the place buffer, and checksums.
-ghost use Rattle.std.specs.Prelude.{◌<◌};
+ghost use Rattle.std.specs.Prelude.{◌≡◌, OnOk, Some};
+ghost use Rattle.std.specs.Io.KnownBytes.{Appends};
+ghost use Rattle.replay.specs.Shown.{checksum, hex_digits, head_of, link_line, output_line, record_line};
 
-use std::io;
-
-fn wide(x: u8) -> u64
-    ensures { result < 256 }
-{
-    x as u64
-}
+use crate::input::Kind;
+use std::fmt::{Display, Formatter, Write};
+use std::{fmt, io};
 
 // s = s * 31 + byte, modulo 2^32, from 1.
-fn checksum(s: &[u8]) -> u64 {
-    let mut sum: u64 = 1;
-    let mut i = 0;
-    while i < s.len() {
-        sum = (sum * 31 + wide(s[i])) % 0x1_0000_0000;
-        i += 1;
+fn checksum(bytes: &[u8]) -> u32
+    ensures { result ≡ checksum bytes.now }
+{
+    let mut sum: u32 = 1;
+    for b in bytes {
+        sum = sum.wrapping_mul(31).wrapping_add(u32::from(*b));
     }
     sum
 }
 
-fn hex(rt: &impl Print, s: &[u8]) -> io::Result<()> {
-    for b in s {
-        print!(rt; "{:02x}", *b)?;
+// Bytes, in hexadecimal.
+#[derive(Clone, Copy)]
+struct Hex<'a>(&'a [u8]);
+
+impl Display for Hex<'_> {
+    ghost output = { λ h. Some (hex_digits h.0.now) };
+
+    fn fmt<W: fmt::Write>(&self, f: &mut Formatter<W>) -> fmt::Result {
+        let bytes = self.0;
+        for &b in bytes {
+            write!(f, "{b:02x}")?;
+        }
+        Ok(())
     }
-    Ok(())
 }
 
-fn field(rt: &impl Print, n: u64) -> io::Result<()> {
-    print!(rt; " {n}")
+// What a case answered: each line begins so.
+#[derive(Clone, Copy)]
+pub struct Answer<'a> {
+    pub index: u64,
+    pub kind: Kind,
+    pub number: u32,
+    pub places: &'a [u8],
 }
 
-// `INDEX KIND NUMBER | places |`
-fn answer(rt: &impl Print, index: u64, kind: u32, number: u32, places: &[u8]) -> io::Result<()> {
-    print!(rt; "{index} {kind} {number} | ")?;
-    hex(rt, places)?;
-    print!(rt; " |")
-}
+impl Display for Answer<'_> {
+    ghost output = { λ a. Some (head_of a) };
 
-fn end(rt: &impl Print) -> io::Result<()> {
-    println!(rt)
+    fn fmt<W: fmt::Write>(&self, f: &mut Formatter<W>) -> fmt::Result {
+        let index = self.index;
+        let kind = u32::from(self.kind);
+        let number = self.number;
+        let places = Hex(self.places);
+        write!(f, "{index} {kind} {number} | {places} |")
+    }
 }
 
 // A link, with the checksums of its three outputs.
-pub fn link(
-    rt: &impl Print,
-    index: u64,
-    number: u32,
-    places: &[u8],
+pub fn link<W: io::Write>(
+    out: &mut W,
+    answer: Answer<'_>,
     image: &[u8],
     funcs: &[u8],
     lines: &[u8],
-) -> io::Result<()> {
-    answer(rt, index, 1, number, places)?;
-    field(rt, checksum(image))?;
-    field(rt, checksum(funcs))?;
-    field(rt, checksum(lines))?;
-    end(rt)
+) -> io::Result<()>
+    ensures { OnOk result (Appends (W.contents out.old) (W.contents out.new)
+        (link_line answer.entry image.now funcs.now lines.now)) }
+{
+    let image = checksum(image);
+    let funcs = checksum(funcs);
+    let lines = checksum(lines);
+    writeln!(out, "{answer} {image} {funcs} {lines}")
 }
 
 // What else fills one output.
-pub fn bytes(
-    rt: &impl Print,
-    index: u64,
-    kind: u32,
-    number: u32,
-    places: &[u8],
-    out: &[u8],
-) -> io::Result<()> {
-    answer(rt, index, kind, number, places)?;
-    field(rt, checksum(out))?;
-    end(rt)
+pub fn output<W: io::Write>(out: &mut W, answer: Answer<'_>, bytes: &[u8]) -> io::Result<()>
+    ensures { OnOk result (Appends (W.contents out.old) (W.contents out.new)
+        (output_line answer.entry bytes.now)) }
+{
+    let sum = checksum(bytes);
+    writeln!(out, "{answer} {sum}")
 }
 
 // A record, with its length.
-pub fn record(
-    rt: &impl Print,
-    index: u64,
-    kind: u32,
-    number: u32,
-    places: &[u8],
-    found: &[u8],
-) -> io::Result<()> {
-    answer(rt, index, kind, number, places)?;
-    field(rt, checksum(found))?;
-    field(rt, found.len() as u64)?;
-    end(rt)
+pub fn record<W: io::Write>(out: &mut W, answer: Answer<'_>, found: &[u8]) -> io::Result<()>
+    ensures { OnOk result (Appends (W.contents out.old) (W.contents out.new)
+        (record_line answer.entry found.now)) }
+{
+    let sum = checksum(found);
+    let len = found.len();
+    writeln!(out, "{answer} {sum} {len}")
 }

@@ -166,7 +166,7 @@ pub fn by_relocation(
     }
 }
 
-// None: the slot is copied as it stands.
+// None: the slot is copied as it stands. The two flags are two facts of one slot, as `decide` of the definitions takes them.
 pub fn decide(
     is_call: bool,
     is_wide: bool,

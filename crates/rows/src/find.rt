@@ -1,4 +1,5 @@
-// The first row of a checked table that has the numbers asked for.
+// The first row of a checked table that has the numbers asked for. A search is `find` over row numbers, by the test of one row; that
+// the table was checked (`Sound`) is asked of the bytes, since docs/CLAIMS.md names these functions and their callers hold bytes.
 ghost use Rattle.std.specs.Prelude.{◌≡◌, ◌+◌, ◌*◌, ◌≤◌, length};
 ghost use Rattle.rules.specs.declared.Table.TheVariants.{Code, Symbols, Functions, Relocations, Maps};
 ghost use Rattle.rules.specs.Rows.{row_size, whole_rows};

@@ -2,6 +2,7 @@
 -- Assumes nothing.
 use Rattle.std.specs.Prelude.{Bool, true, false, cond, ◌&&◌, ◌||◌, List, [], ◌∷◌, ℕ, zero, suc, ◌/◌, ◌%◌, ℤ, pos, negsuc, ◌+ℤ◌, ltb, leb, eqb, length}
 use Rattle.std.proofs.Math.Option.{Option, none, some}
+use Rattle.rules.specs.declared.Place.{Place}
 use Rattle.rules.specs.declared.Kind.{Kind}
 use Rattle.rules.specs.declared.Kind.TheVariants.{Plain, WideLoad, JumpByOffset, JumpByImmediate, Conditional, CallByte, Exit, Unknown}
 use Rattle.rules.specs.Object.{Insn, is_call, Object, Meaning, copied, call, reference, refused, meaning}
@@ -66,9 +67,8 @@ within length f (pos n) = cond (ltb n length) (some (f n)) none
 within length f (negsuc n) = none
 
 -- the source's functions: a slot of a row
-pub record SourcePlace : Type 0 where
-  pub row : ℕ
-  pub slot : ℤ
+abbrev pub SourcePlace : Type 0
+SourcePlace = Place
 
 abbrev pub place : ℕ → ℤ → SourcePlace
 place row slot = record { row = row; slot = slot }

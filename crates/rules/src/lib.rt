@@ -128,6 +128,13 @@ pub struct Slot(pub u32);
 #[derive(Clone, Copy, PartialEq, Eq, PartialOrd, Ord)]
 pub struct ByteOffset(pub u64);
 
+// A place of the source walk: a slot of a row, which may lie outside.
+#[derive(Clone, Copy, PartialEq, Eq)]
+pub struct Place {
+    pub row: usize,
+    pub slot: i64,
+}
+
 // What an opcode does to the walk.
 #[derive(Clone, Copy)]
 pub enum Kind {

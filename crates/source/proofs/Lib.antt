@@ -1,3 +1,2 @@
 pub mod Sights
-pub mod Steps
 pub mod Entry

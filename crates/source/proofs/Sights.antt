@@ -13,8 +13,10 @@ use borrow.Author.Tests.{lt-ltb, ltb-true, ltb-false}
 use Rattle.rules.specs.declared.Table.TheVariants.{Functions}
 use Rattle.rules.specs.declared.Kind.{Kind}
 use Rattle.rules.specs.declared.Kind.TheVariants.{Plain, WideLoad, JumpByOffset, JumpByImmediate, Conditional, CallByte, Exit, Unknown}
-use Rattle.rules.specs.declared.Found.{Found}
-use Rattle.rules.specs.declared.Found.TheVariants.{Nothing}
+use Rattle.std.specs.Option.{is_some}
+use Rattle.std.specs.Prelude as prelude
+use Rattle.std.specs.Prelude.{None, Some}
+use Rattle.rules.specs.Tables as tables
 use Rattle.rules.specs.Object.{Insn, is_call, Meaning, copied, call, reference, refused, meaning}
 use Rattle.rules.specs.Faithful.{slot_at}
 use Rattle.rules.specs.Bytes.{little, slot_in, decoded}
@@ -27,20 +29,8 @@ use Rattle.rules.proofs.Writing.{decoded_at}
 use Rattle.resolve.specs.Resolves.{Resolves}
 use Rattle.resolve.proofs.Slots.{end_inside}
 use Rattle.walk.specs.Moves.{leads_in}
-use Rattle.walk.proofs.Places.{slot_found, outside_test}
-use Rattle.source.specs.Moves.{object_in, Slotted, slots_in, called_by, entered_by, move_from}
-
--- a slot of a function is one of a row of table 3
-pub record Inside (functions : List ℕ) (row slot : ℕ) : Type 0 where
-  pub row_inside : row < whole_rows Functions functions
-  pub slot_inside : slot < function_slots functions row
-
-pub inside : (functions : List ℕ) (row slot : ℕ) → slot < slots_in functions row → Inside functions row slot
-inside functions row slot h = by (ltb row (whole_rows Functions functions)) refl h
-  where
-    by : (b : Bool) → ltb row (whole_rows Functions functions) ≡ b → slot < cond b (function_slots functions row) 0 → Inside functions row slot
-    by true e l = record { row_inside = ltb-true row (whole_rows Functions functions) e; slot_inside = l }
-    by false e l = absurd (omega arith)
+use Rattle.walk.proofs.Places.{slot_found, outside_test, Lies, lies}
+use Rattle.source.specs.Moves.{object_in, Slotted, slots_in, called_by}
 
 module _ (o : Offered) where
   abbrev functions : List ℕ
@@ -58,10 +48,22 @@ module _ (o : Offered) where
           (get_or-eq_default (tables_of little o).functions no_function
           (omega (arith, rows_are little o, ltb-false row (whole_rows Functions functions) e)))
 
-  pub source_outside : (row : ℕ) (at : ℤ) → Nothing ≡ slot_found (slots_in functions row) at → in_source (object_in o) (place row at) ≡ none
+  pub source_outside : (row : ℕ) (at : ℤ) → None ≡ slot_found (slots_in functions row) at → in_source (object_in o) (place row at) ≡ none
   unfolding in_source
   source_outside row (pos n) e = rw (slots_are row, outside_test (slots_in functions row) n e)
   source_outside row (negsuc n) e = refl
+
+  -- a slot of the row is a place that one sees
+  sees : (row n : ℕ) → n < slots_in functions row → true ≡ tables.is_some (in_source (object_in o) (place row (pos n)))
+  unfolding in_source
+  sees row n h = rw (slots_are row, lt-ltb n (slots_in functions row) h)
+
+  pub sees_found : (row : ℕ) (at : ℤ) (f : prelude.Option ℕ) → f ≡ slot_found (slots_in functions row) at
+      → is_some f ≡ tables.is_some (in_source (object_in o) (place row at))
+  sees_found row at None e = ap tables.is_some (sym (source_outside row at e))
+  sees_found row at (Some k) e =
+      let l : Lies (slots_in functions row) at k = lies (slots_in functions row) at k e in
+      sees row k l.low ∙ ap (λ (z : ℤ). tables.is_some (in_source (object_in o) (place row z))) (sym l.place)
 
 module _ {o : Offered} {row first slot : ℕ} (s : Slotted o row first slot) where
   abbrev instructions : List ℕ
@@ -90,12 +92,17 @@ module _ {o : Offered} {row first slot : ℕ} (s : Slotted o row first slot) whe
       slot_low
       ∙ ap (λ (i : Insn). some (leads i (λ d. place row (pos slot +ℤ d)) (callee_of (meaning (object_in o) row slot)))) insn_is
 
+-- where a call leads whose callee was found, or was not
+abbrev pub entered_by : prelude.Option ℕ → SourcePlace → Move SourcePlace
+entered_by None back = stuck
+entered_by (Some row) back = enters (place row (pos 0)) back
+
 -- the same slot's move, its callee found in the tables
-abbrev pub sourced : ℕ → Found → Option (Move ℤ) → Option (Move SourcePlace)
+abbrev pub sourced : ℕ → prelude.Option ℕ → Option (Move ℤ) → Option (Move SourcePlace)
 sourced row to none = none
 sourced row to (some (goes next)) = some (goes (place row next))
 sourced row to (some (chooses a b)) = some (chooses (place row a) (place row b))
-sourced row to (some (enters first back)) = move_from row (entered_by to back)
+sourced row to (some (enters first back)) = some (entered_by to (place row back))
 sourced row to (some returns) = some returns
 sourced row to (some stuck) = some stuck
 
@@ -104,7 +111,7 @@ pub sourced_is : (i : Insn) (row slot : ℕ) (m : Meaning)
 unfolding leads
 sourced_is i row slot m = by (kind i.opcode)
   where
-    entered : (k : Meaning) → some (entering (callee_of k) (place row (pos slot +ℤ pos 1))) ≡ move_from row (entered_by (called_by k) (pos slot +ℤ pos 1))
+    entered : (k : Meaning) → some (entering (callee_of k) (place row (pos slot +ℤ pos 1))) ≡ some (entered_by (called_by k) (place row (pos slot +ℤ pos 1)))
     entered copied = refl
     entered (call to) = refl
     entered (reference to) = refl

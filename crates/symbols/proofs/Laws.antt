@@ -3,7 +3,7 @@
 use mathlib.Core.Path.{◌≡◌, refl, sym, ap, ◌∙◌}
 use mathlib.Core.Bool.{Bool, true, false, cond}
 use mathlib.Core.List.{List, [], ◌∷◌, ◌++◌, append_assoc, append-nil}
-use Prim.Native.Nat.{ℕ, min, zero, suc, ◌+◌, ◌-◌, ◌*◌, ◌/◌, ◌%◌, ◌^◌, ◌≤◌, ◌<◌}
+use Prim.Native.Nat.{ℕ, min, zero, suc, ◌+◌, ◌*◌, ◌/◌, ◌%◌, ◌^◌, ◌≤◌, ◌<◌}
 use native.Mathlib.Omega.{arith}
 use native.Mathlib.Numerals.{add-one}
 use native.Mathlib.Nat.{add-zero}
@@ -14,8 +14,7 @@ use Rattle.std.specs.Int.{to_le_bytes, w64}
 use borrow.Author.Tests.{ltb-true, ltb-false}
 use lib.Dec.{eqb, ltb}
 use lib.ListN.{length, get_or, take, drop, set, length-append}
-use borrow.Rule.Slice.PartMut.{put_mid}
-use lib.Seq.{drop-drop, get_or-append-add, drop-cons, take-suc, length-take-le}
+use lib.Seq.{get_or-append-add, drop-cons, take-suc, length-take-le}
 use Rattle.rules.specs.declared.Table.TheVariants.{Symbols}
 use Rattle.rules.specs.Link.{run}
 use Rattle.rules.specs.Bytes.{little, byte_at, u32_at, bytes4, splice}
@@ -123,13 +122,6 @@ row_put d p s a b e l n ea eb ee =
     kinded = ap (λ (x : List ℕ). set x (p + 16) s.kind) addressed
         ∙ one_put (splice d p (bytes4 little s.index ++ bytes4 little s.section ++ bytes8 s.address)) (p + 16) s.kind (omega (arith, splice_length d p (bytes4 little s.index ++ bytes4 little s.section ++ bytes8 s.address) (omega arith)))
         ∙ splice_on d p (p + 16) (bytes4 little s.index ++ bytes4 little s.section ++ bytes8 s.address) (s.kind ∷ []) (omega arith) (omega arith)
-
--- the part of a list that is written whole is a splice
-pub part_put : (d vs ys : List ℕ) (p n : ℕ) → ys ≡ vs → length vs ≡ n → put_mid p (p + n - p) d ys ≡ splice d p vs
-unfolding splice
-part_put d vs ys p n e l =
-    let m : p + n - p ≡ length vs = omega arith in
-    rw (m, e, drop-drop (length vs) p d) (sym (append_assoc (take p d) vs (drop (p + length vs) d)))
 
 -- a u64 as the library has its bytes
 pub eight_bytes : (v : ℕ) → v < 2 ^ 64 → to_le_bytes w64 v ≡ bytes8 v

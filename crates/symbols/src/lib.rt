@@ -11,7 +11,7 @@ ghost use Rattle.symbols.specs.Symbols.{bytes8, row_bytes, bytes_of, rows_needed
 use rules::limits::{MOST_SYMBOLS, SYMBOL_SIZE};
 use wire::{copy, put_u32};
 
-// A row of table 2. C's layout of it on a little-endian host is the row's bytes.
+// A row of table 2. C's layout of it on a little-endian host is the row's bytes, so that the kind is a number.
 #[repr(C)]
 #[derive(Clone, Copy, PartialEq, Eq)]
 pub struct Symbol {
@@ -31,7 +31,7 @@ fn put_u64(out: &mut [u8], at: usize, v: u64)
     out[at..at + 8].copy_from_slice(&v.to_le_bytes());
 }
 
-// Row k of the byte table.
+// Row k of the byte table. Field by field: a row made first and then copied in is no plainer.
 pub fn put_row(out: &mut [u8], k: usize, s: Symbol)
     requires { row_size Symbols * k + row_size Symbols ≤ length out.old }
     ensures { out.new ≡ splice out.old (row_size Symbols * k) (row_bytes s) }

@@ -11,9 +11,9 @@ use rows::fields::{
 use rows::order::is_before;
 use rules::limits::{
     HAS_DATA, MAP_SIZE, MOST_ADDRESS, MOST_FUNCTION_SLOTS, MOST_SECTION, NONE, RELOCATION_SIZE,
-    SECTION, SYMBOL_SIZE,
+    SYMBOL_SIZE,
 };
-use rules::{ByteOffset, Table};
+use rules::{ByteOffset, SymbolKind, Table};
 use wire::all_zero;
 
 fn is_section(s: u32) -> bool
@@ -52,7 +52,7 @@ fn symbol_good(t: &[u8], k: usize) -> bool
     (index != NONE)
         & is_section_or_none(symbol_section(t, k))
         & is_address(symbol_address(t, k))
-        & (symbol_kind(t, k) <= SECTION)
+        & (symbol_kind(t, k) <= SymbolKind::Section as u8)
         & all_zero(t, SYMBOL_SIZE * k + 17, 7)
         & ((k == 0) | (last < index))
 }

@@ -1,7 +1,13 @@
 -- A tables file as it is held: eight u32 lengths, then tables 1 to 5, 7 and 8. Table 6 has a buffer of its own.
 -- Assumes nothing.
-use Rattle.std.specs.Prelude.{Bool, true, false, cond, List, [], ℕ, zero, suc, ◌+◌, ◌*◌, eqb, leb, length, take, drop}
+use Rattle.std.specs.Prelude.{Bool, true, false, cond, List, [], ℕ, zero, suc, ◌+◌, ◌-◌, ◌*◌, eqb, leb, length, take, drop}
+use Rattle.rules.specs.declared.Table.{Table}
+use Rattle.rules.specs.Rows.{table_number}
 use Rattle.rules.specs.Bytes.{little, u32_at}
+
+-- how many tables stand before one
+abbrev pub place_of : Table → ℕ
+place_of table = table_number table - 1
 
 -- the bytes of table i + 1
 abbrev pub length_in : List ℕ → ℕ → ℕ

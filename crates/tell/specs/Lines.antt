@@ -1,28 +1,17 @@
 -- A line of words: lines of a text, with numbers in the places that they keep for them. '#' keeps one for a number in decimal, '~' in
 -- decimal as a column of four, '$' for its four bytes in hexadecimal, '%' for the same with a space before each; '^' stands for a line's end, and the text's own lines end in a line feed.
 -- Assumes nothing.
-use Rattle.std.specs.Prelude.{◌≡◌, Bool, true, false, cond, not, ◌||◌, List, [], ◌∷◌, ◌++◌, ℕ, zero, suc, ◌+◌, ◌-◌, ◌/◌, ◌%◌, ◌^◌, ◌≤◌, eqb, leb, ltb, length, get_or, take}
-use Rattle.tell.specs.declared.lines.Words.{Words}
+use Rattle.std.specs.Prelude.{Bool, true, false, cond, not, ◌||◌, Option, None, Some, List, [], ◌∷◌, ◌++◌, ℕ, zero, suc, ◌+◌, ◌-◌, ◌/◌, ◌%◌, ◌^◌, eqb, leb, ltb, length, get_or, take}
+use Rattle.tell.specs.declared.lines.Mark.{Mark}
+use Rattle.tell.specs.declared.lines.Mark.TheVariants.{Decimal, Column, Bytes, Spaced}
 
 -- the bytes that a line has room for
 abbrev pub line_room : ℕ
 line_room = 192
 
--- no more of them are words than there are
-pub record Fits (words : Words) : Type 0 where
-  pub room : length words.bytes ≡ line_room
-  pub within : words.used ≤ line_room
-
 -- a line's words are what they were, and `more`; what would stand past the end of its room is left out
-pub record Adds (more : List ℕ) (before after : Words) : Type 0 where
-  pub fits : Fits after
-  pub line : take after.used after.bytes ≡ take line_room (take before.used before.bytes ++ more)
-
--- a line's words are these, as far as it has room; and they are the first of its bytes
-pub record Says (more : List ℕ) (words : Words) : Type 0 where
-  pub within : words.used ≤ length words.bytes
-  pub part : words.used ≡ length (take words.used words.bytes)
-  pub line : take words.used words.bytes ≡ take line_room more
+unfoldable pub added : List ℕ → List ℕ → List ℕ
+added more before = before ++ take (line_room - length before) more
 
 -- ---- numbers
 
@@ -60,19 +49,47 @@ bytes_words (suc k) spaced n = place_of false spaced 0 ++ (byte_words n ++ bytes
 
 -- ---- a text's bytes
 
+abbrev pub pick_mark : Bool → Mark → Option Mark → Option Mark
+pick_mark true a b = Some a
+pick_mark false a b = b
+
+-- '#', '~', '$', '%'
+abbrev pub mark_of : ℕ → Option Mark
+mark_of t = pick_mark (eqb t 35) Decimal (pick_mark (eqb t 126) Column (pick_mark (eqb t 36) Bytes (pick_mark (eqb t 37) Spaced None)))
+
+abbrev pub marked : Mark → ℕ → List ℕ
+marked Decimal n = decimal 1 n
+marked Column n = decimal 4 n
+marked Bytes n = bytes_words 4 false n
+marked Spaced n = bytes_words 4 true n
+
+-- '^' stands for a line's end, any other byte but a mark for itself
+abbrev pub plain : ℕ → ℕ
+plain t = cond (eqb t 94) 10 t
+
+abbrev pub piece_at : Option Mark → ℕ → ℕ → List ℕ
+piece_at (Some mark) t n = marked mark n
+piece_at None t n = plain t ∷ []
+
 abbrev pub piece_of : ℕ → ℕ → List ℕ
-piece_of t n =
-    cond (eqb t 35) (decimal 1 n)
-    (cond (eqb t 126) (decimal 4 n)
-    (cond (eqb t 36) (bytes_words 4 false n) (cond (eqb t 37) (bytes_words 4 true n) (cond (eqb t 94) (10 ∷ []) (t ∷ [])))))
+piece_of t n = piece_at (mark_of t) t n
 
 -- 1 for the mark of a number
+abbrev pub takes_at : Option Mark → ℕ
+takes_at (Some mark) = 1
+takes_at None = 0
+
 abbrev pub takes_of : ℕ → ℕ
-takes_of t = cond (eqb t 35) 1 (cond (eqb t 126) 1 (cond (eqb t 36) 1 (cond (eqb t 37) 1 0)))
+takes_of t = takes_at (mark_of t)
 
 -- 1 for the end of a text's line
 abbrev pub ends_of : ℕ → ℕ
 ends_of t = cond (eqb t 10) 1 0
+
+-- what stands behind a text's first line
+unfoldable pub behind : List ℕ → List ℕ
+behind [] = []
+behind (t ∷ ts) = cond (eqb t 10) ts (behind ts)
 
 -- the text from its line k on
 unfoldable pub line_from : List ℕ → ℕ → List ℕ

@@ -1,10 +1,8 @@
 -- What an answer is told with: lines of a text, by document 01's table "Numbers returned" and, from 32 on, ours (rules, specs/Answers). And a
 -- number in digits.
 -- Assumes nothing.
-use Rattle.std.specs.Prelude.{Bool, true, false, cond, ◌||◌, List, [], ◌∷◌, ℕ, ◌+◌, ◌-◌, ◌*◌, eqb, ltb, get_or}
+use Rattle.std.specs.Prelude.{Bool, cond, ◌||◌, Option, None, Some, List, [], ◌∷◌, ℕ, ◌+◌, ◌-◌, ◌*◌, eqb, ltb, get_or}
 use Rattle.tell.specs.declared.words.Told.{Told}
-use Rattle.tell.specs.declared.words.Number.{Number}
-use Rattle.tell.specs.declared.words.Number.TheVariants.{Whole, Not}
 use Rattle.tell.specs.Text.{table_line, end_line, row_line, slot_line, call_line, function_line, record_line, after_line, over_line, piece_line, starts_line, ends_line, piece_slot_line, names_line, piece_record_line, blank_line}
 
 -- ---- an answer
@@ -22,7 +20,7 @@ place_lines =
     ∷ end_line ∷ end_line ∷ after_line ∷ end_line ∷ piece_line ∷ starts_line ∷ ends_line ∷ piece_slot_line ∷ names_line ∷ names_line ∷ piece_record_line ∷ piece_record_line ∷ over_line ∷ []
 
 abbrev pub place_line : ℕ → ℕ
-place_line k = cond (ltb k 28) (get_or place_lines k 0) end_line
+place_line k = get_or place_lines k end_line
 
 -- 33, 34 and 44 name a run of what is shown: 6 to 9
 abbrev pub names_run : ℕ → Bool
@@ -46,25 +44,24 @@ answer_numbers t root = root ∷ 0 ∷ 0 ∷ t.a ∷ t.b ∷ t.c ∷ t.a ∷ t.b
 
 -- ---- decimal digits, one at least, that a u32 holds
 
-abbrev pub pick_count : Bool → ℕ → ℕ → ℕ
-pick_count true a b = a
-pick_count false a b = b
+-- 48 to 57 count 0 to 9
+abbrev pub digit_of : ℕ → Option ℕ
+digit_of b = cond (ltb b 48) None (cond (ltb 57 b) None (Some (b - 48)))
 
-abbrev pub pick_number : Bool → Number → Number → Number
-pick_number true a b = a
-pick_number false a b = b
+-- a digit after those that count n
+abbrev pub add_digit : ℕ → Option ℕ → Option ℕ
+add_digit n None = None
+add_digit n (Some d) = cond (ltb 0xFFFF_FFFF (10 * n + d)) None (Some (10 * n + d))
 
--- 48 to 57 count 0 to 9; 10 stands for no digit
-abbrev pub digit_of : ℕ → ℕ
-digit_of b = pick_count (ltb b 48) 10 (pick_count (ltb 57 b) 10 (b - 48))
+abbrev pub go_on : Option ℕ → (ℕ → Option ℕ) → Option ℕ
+go_on None f = None
+go_on (Some n) f = f n
 
 -- the digits that are left, after those that count n
-unfoldable pub digits_in : ℕ → List ℕ → Number
-digits_in n [] = Whole n
-digits_in n (b ∷ bs) =
-    pick_number (eqb (digit_of b) 10) Not
-    (pick_number (ltb 0xFFFF_FFFF (10 * n + digit_of b)) Not (digits_in (10 * n + digit_of b) bs))
+unfoldable pub digits_in : ℕ → List ℕ → Option ℕ
+digits_in n [] = Some n
+digits_in n (b ∷ bs) = go_on (add_digit n (digit_of b)) (λ m. digits_in m bs)
 
-unfoldable pub number_in : List ℕ → Number
-number_in [] = Not
+unfoldable pub number_in : List ℕ → Option ℕ
+number_in [] = None
 number_in (b ∷ bs) = digits_in 0 (b ∷ bs)

@@ -1,48 +1,31 @@
 // What the tool is asked for, by its first argument.
 ghost use Rattle.std.specs.Prelude.{◌≡◌};
-ghost use Rattle.tell.specs.Commands.{same_bytes, command_in};
+ghost use Rattle.tell.specs.Commands.{is_help, command_in};
 
-#[derive(Clone, Copy)]
+#[derive(Clone, Copy, PartialEq, Eq)]
 pub enum Command {
     Link,
     Examine,
     Help,
-    Unknown,
 }
 
-fn same(a: &[u8], b: &[u8]) -> bool
-    ensures { result ≡ same_bytes a.now b.now }
+fn is_help(word: &[u8]) -> bool
+    ensures { result ≡ is_help word.now }
 {
-    if a.len() != b.len() {
-        return false;
-    }
-    let mut i = 0;
-    while i < a.len() {
-        if a[i] != b[i] {
-            return false;
-        }
-        i += 1;
-    }
-    true
+    word == b"help".as_slice() || word == b"--help".as_slice() || word == b"-h".as_slice()
 }
 
-pub fn asked(word: &[u8]) -> Command
+#[tactic(auto, unfolding(crate::specs::Commands::command_in))]
+pub fn asked(word: &[u8]) -> Option<Command>
     ensures { result ≡ command_in word.now }
 {
-    if same(word, b"link") {
-        return Command::Link;
+    if word == b"link".as_slice() {
+        Some(Command::Link)
+    } else if word == b"examine".as_slice() {
+        Some(Command::Examine)
+    } else if is_help(word) {
+        Some(Command::Help)
+    } else {
+        None
     }
-    if same(word, b"examine") {
-        return Command::Examine;
-    }
-    if same(word, b"help") {
-        return Command::Help;
-    }
-    if same(word, b"--help") {
-        return Command::Help;
-    }
-    if same(word, b"-h") {
-        return Command::Help;
-    }
-    Command::Unknown
 }

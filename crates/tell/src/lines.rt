@@ -1,223 +1,216 @@
 // A line of words: lines of a text, with numbers in the places that they keep for them.
-ghost use Rattle.std.specs.Prelude.{◌≡◌, [], ◌∷◌, ◌*◌, ◌^◌, ◌≤◌, ◌<◌, length, get_or, drop};
-ghost use Rattle.tell.specs.Lines.{Fits, Adds, Says, hex_of, place_of, decimal, byte_words, bytes_words};
-ghost use Rattle.tell.specs.Lines.{piece_of, takes_of, ends_of, line_from, words_in, spoken};
+ghost use Rattle.std.specs.Prelude.{◌≡◌, [], ◌∷◌, ◌*◌, ◌^◌, ◌≤◌, ◌<◌, List, ℕ, length, get_or, take, ◌==◌, position};
+ghost use Rattle.tell.specs.Lines.{added, hex_of, mark_of, place_of, decimal, byte_words, bytes_words};
+ghost use Rattle.tell.specs.Lines.{line_room, marked, plain, behind, line_from, words_in, spoken};
 
 use crate::room::LINE;
+use std::marker::Model;
 
-// The marks for the next number: in decimal, in decimal as a column of four, its four bytes in hexadecimal, the same with a space
-// before each. And a line's end.
-const DECIMAL: u8 = b'#';
-
-const COLUMN: u8 = b'~';
-
-const BYTES: u8 = b'$';
-
-const SPACED: u8 = b'%';
-
-const NEW_LINE: u8 = b'^';
+// The marks for the next number.
+#[derive(Clone, Copy, PartialEq, Eq)]
+enum Mark {
+    // '#': in decimal
+    Decimal,
+    // '~': in decimal as a column of four
+    Column,
+    // '$': its four bytes in hexadecimal, the least first
+    Bytes,
+    // '%': the same with a space before each
+    Spaced,
+}
 
 // A text's own lines end so.
 const END: u8 = b'\n';
 
-// A line by value: its bytes, and how many of them are words.
-#[derive(Clone, Copy)]
-pub struct Words {
-    pub bytes: [u8; LINE],
-    pub used: usize,
+fn mark_of(t: u8) -> Option<Mark>
+    ensures { result ≡ mark_of t }
+{
+    match t {
+        b'#' => Some(Mark::Decimal),
+        b'~' => Some(Mark::Column),
+        b'$' => Some(Mark::Bytes),
+        b'%' => Some(Mark::Spaced),
+        _ => None,
+    }
 }
 
-fn put(words: Words, b: u8) -> Words
-    requires { Fits words }
-    ensures { Adds (b ∷ []) words result }
+// Any other byte: '^' stands for a line's end.
+fn plain(t: u8) -> u8
+    ensures { result ≡ plain t }
 {
-    let at = words.used;
-    let mut bytes = words.bytes;
-    if at < LINE {
-        bytes[at] = b;
-        return Words {
-            bytes,
-            used: at + 1,
-        };
-    }
-    words
-}
-
-// A digit, or what stands for a zero before the first digit: a space or nothing.
-fn put_place(words: Words, d: u32, begun: bool, blank: bool) -> Words
-    requires { Fits words × (d < 10) }
-    ensures { Adds (place_of begun blank d) words result }
-{
-    if begun {
-        return put(words, b'0' + d as u8);
-    }
-    if blank {
-        return put(words, b' ');
-    }
-    words
-}
-
-// In decimal, with spaces before it up to `width`.
-fn put_number(words: Words, n: u32, width: u32) -> Words
-    requires { Fits words }
-    ensures { Adds (decimal width n) words result }
-{
-    let mut line = words;
-    let mut power: u32 = 1_000_000_000;
-    let mut begun = false;
-    let mut k: u32 = 10;
-    while k > 0 {
-        let d = n / power % 10;
-        begun = begun | (d != 0) | (k == 1);
-        line = put_place(line, d, begun, k <= width);
-        power = power / 10;
-        k -= 1;
-    }
-    line
-}
-
-fn hex(d: u32) -> u8
-    requires { d < 16 }
-    ensures { result ≡ hex_of d }
-{
-    if d < 10 {
-        return b'0' + d as u8;
-    }
-    b'a' - 10 + d as u8
-}
-
-fn put_byte(words: Words, n: u32) -> Words
-    requires { Fits words }
-    ensures { Adds (byte_words n) words result }
-{
-    put(put(words, hex(n / 16 % 16)), hex(n % 16))
-}
-
-// Four bytes, the least first.
-fn put_bytes(words: Words, n: u32, spaced: bool) -> Words
-    requires { Fits words }
-    ensures { Adds (bytes_words 4 spaced n) words result }
-{
-    let mut line = words;
-    let mut left = n;
-    let mut k: u32 = 4;
-    while k > 0 {
-        line = put_byte(put_place(line, 0, false, spaced), left);
-        left = left / 256;
-        k -= 1;
-    }
-    line
-}
-
-// What stands in a line for a byte of its text.
-fn put_piece(words: Words, t: u8, n: u32) -> Words
-    requires { Fits words }
-    ensures { Adds (piece_of t n) words result }
-{
-    if t == DECIMAL {
-        return put_number(words, n, 1);
-    }
-    if t == COLUMN {
-        return put_number(words, n, 4);
-    }
-    if t == BYTES {
-        return put_bytes(words, n, false);
-    }
-    if t == SPACED {
-        return put_bytes(words, n, true);
-    }
-    if t == NEW_LINE {
-        return put(words, b'\n');
-    }
-    put(words, t)
-}
-
-// 1 for the mark of a number, else 0.
-fn takes(t: u8) -> usize
-    ensures { (result ≡ takes_of t) × (result ≤ 1) }
-{
-    if t == DECIMAL {
-        return 1;
-    }
-    if t == COLUMN {
-        return 1;
-    }
-    if t == BYTES {
-        return 1;
-    }
-    if t == SPACED {
-        return 1;
-    }
-    0
+    if t == b'^' { b'\n' } else { t }
 }
 
 fn number_at(numbers: &[u32], j: usize) -> u32
     ensures { result ≡ get_or numbers.now j 0 }
 {
-    if j < numbers.len() {
-        return numbers[j];
-    }
-    0
+    numbers.get(j).copied().unwrap_or(0)
 }
 
-// 1 for the end of a text's line, else 0.
-fn ends(t: u8) -> usize
-    ensures { (result ≡ ends_of t) × (result ≤ 1) }
+// By hand, for the reason at `push_number`.
+fn hex(d: u8) -> u8
+    requires { d < 16 }
+    ensures { result ≡ hex_of d }
 {
-    if t == END {
-        return 1;
-    }
-    0
+    if d < 10 { b'0' + d } else { b'a' - 10 + d }
 }
 
-// Where line k of a text begins.
-fn line_start(text: &[u8], k: usize) -> usize
-    ensures { (result ≤ length text.now) × (drop result text.now ≡ line_from text.now k) }
-{
-    let mut i = 0;
-    let mut left = k;
-    while i < text.len() {
-        if left == 0 {
-            return i;
+// A line: its words, and behind them what is left of its room. What would stand past the end of the room is left out.
+#[derive(Drop)]
+pub struct Words {
+    bytes: [u8; LINE],
+    used: usize,
+}
+
+impl Model for Words {
+    ghost Value = { List ℕ };
+
+    ghost view = { λ w. take w.used w.bytes };
+
+    ghost invariant = { λ w. w.used ≤ line_room };
+}
+
+impl Words {
+    fn new() -> Self
+        ensures { result ≡ [] }
+    {
+        Words {
+            bytes: [0; LINE],
+            used: 0,
         }
-        left -= ends(text[i]);
-        i += 1;
     }
-    i
+
+    pub fn as_bytes(&self) -> &[u8]
+        ensures { result.now ≡ self.now }
+    {
+        &self.bytes[..self.used]
+    }
+
+    fn push(&mut self, b: u8)
+        ensures { self.new ≡ added (b ∷ []) self.old }
+    {
+        if self.used < LINE {
+            self.bytes[self.used] = b;
+            self.used += 1;
+        }
+    }
+
+    // A digit, or what stands for a zero before the first digit: a space or nothing.
+    #[tactic(auto, using(crate::proofs::Added::none))]
+    fn push_place(&mut self, d: u32, begun: bool, blank: bool)
+        requires { d < 10 }
+        ensures { self.new ≡ added (place_of begun blank d) self.old }
+    {
+        if begun {
+            self.push(b'0' + d as u8);
+        } else if blank {
+            self.push(b' ');
+        }
+    }
+
+    // In decimal, with spaces before it up to `width`. By hand, as the bytes are: as far as its contract says, std's `write!` may fail, and
+    // `spoken_line` cannot.
+    #[tactic(auto, using(crate::proofs::Added::none, crate::proofs::Spelled::digits_on, crate::proofs::Spelled::digits_end))]
+    fn push_number(&mut self, n: u32, width: u32)
+        ensures { self.new ≡ added (decimal width n) self.old }
+    {
+        let mut begun = false;
+        for k in 0..10u32 {
+            let left = 10 - k;
+            let d = n / 10u32.pow(left - 1) % 10;
+            begun = begun | (d != 0) | (left == 1);
+            self.push_place(d, begun, left <= width);
+        }
+    }
+
+    #[tactic(auto, using(crate::proofs::Added::then))]
+    fn push_byte(&mut self, b: u8)
+        ensures { self.new ≡ added (byte_words b) self.old }
+    {
+        self.push(hex(b / 16));
+        self.push(hex(b % 16));
+    }
+
+    // Four bytes, the least first.
+    #[tactic(auto, using(crate::proofs::Added::none, crate::proofs::Spelled::four, crate::proofs::Spelled::bytes_on, crate::proofs::Spelled::bytes_end))]
+    fn push_bytes(&mut self, n: u32, spaced: bool)
+        ensures { self.new ≡ added (bytes_words 4 spaced n) self.old }
+    {
+        for b in n.to_le_bytes() {
+            self.push_place(0, false, spaced);
+            self.push_byte(b);
+        }
+    }
+
+    fn push_marked(&mut self, mark: Mark, n: u32)
+        ensures { self.new ≡ added (marked mark n) self.old }
+    {
+        match mark {
+            Mark::Decimal => self.push_number(n, 1),
+            Mark::Column => self.push_number(n, 4),
+            Mark::Bytes => self.push_bytes(n, false),
+            Mark::Spaced => self.push_bytes(n, true),
+        }
+    }
+
+    // A text's line, with the numbers from number `first` on in its places.
+    #[tactic(auto, using(crate::proofs::Added::none, crate::proofs::Spelled::line_end, crate::proofs::Spelled::text_end))]
+    fn push_line(&mut self, text: &[u8], numbers: &[u32], first: usize)
+        requires { first ≤ 2 ^ 62 }
+        ensures { self.new ≡ added (words_in text.now numbers.now first) self.old }
+    {
+        let mut j = first;
+        for t in text {
+            if *t == END {
+                return;
+            }
+            match mark_of(*t) {
+                Some(mark) => {
+                    self.push_marked(mark, number_at(numbers, j));
+                    j += 1;
+                }
+                None => self.push(plain(*t)),
+            }
+        }
+    }
 }
 
-// Line k of a text, with the numbers from number `first` on in its places, after what a line has.
-fn put_line(words: Words, text: &[u8], k: usize, numbers: &[u32], first: usize) -> Words
-    requires { Fits words × (first ≤ 2 ^ 62) }
-    ensures { Adds (words_in (line_from text.now k) numbers.now first) words result }
+fn end_of(text: &[u8]) -> Option<usize>
+    ensures { result ≡ position (λ t. t == 10) text.now }
 {
-    let mut line = words;
-    let mut i = line_start(text, k);
-    let mut j = first;
-    while i < text.len() {
-        let t = text[i];
-        if t == END {
-            return line;
-        }
-        line = put_piece(line, t, number_at(numbers, j));
-        j += takes(t);
-        i += 1;
+    text.iter().position(|t| *t == END)
+}
+
+// What stands behind a text's first line.
+#[tactic(auto, using(crate::proofs::Spelled::behind_at, crate::proofs::Spelled::behind_none))]
+fn behind(text: &[u8]) -> &[u8]
+    ensures { result.now ≡ behind text.now }
+{
+    match end_of(text) {
+        Some(end) => &text[end + 1..],
+        None => &[],
     }
-    line
+}
+
+// A text from its line k on.
+fn line_from(text: &[u8], k: usize) -> &[u8]
+    ensures { result.now ≡ line_from text.now k }
+{
+    let mut rest = text;
+    for _ in 0..k {
+        rest = behind(rest);
+    }
+    rest
 }
 
 // Lines of a text, one after the other, each with the next three numbers.
+#[tactic(auto, using(crate::proofs::Added::none, crate::proofs::Added::first, crate::proofs::Spelled::spoken_on, crate::proofs::Spelled::spoken_end))]
 pub fn spoken_line(text: &[u8], lines: &[usize], numbers: &[u32]) -> Words
-    ensures { Says (spoken text.now lines.now numbers.now 0) result }
+    ensures { result ≡ take line_room (spoken text.now lines.now numbers.now 0) }
 {
-    let mut line = Words {
-        bytes: [0; LINE],
-        used: 0,
-    };
-    let mut i = 0;
-    while i < lines.len() {
-        line = put_line(line, text, lines[i], numbers, 3 * i);
-        i += 1;
+    let mut words = Words::new();
+    for (i, k) in lines.iter().enumerate() {
+        words.push_line(line_from(text, *k), numbers, 3 * i);
     }
-    line
+    words
 }

@@ -1,5 +1,6 @@
 // The tool's words: a text, and which of its lines say what. A text's lines keep places for numbers (lines.rt).
-// specs/Text.antt has the same numbers for definitions.
+// specs/Text.antt has the same numbers for definitions. They are numbers and no enum: `answer`, `of_file`, `of_part`, and clerk's `complain`,
+// `failed`, `nameless` and `read` take any line, and an enum would ask more of who calls them.
 // A step that is done, and what it counts.
 pub const APPLIED: usize = 0;
 
@@ -110,7 +111,7 @@ pub const NO_NUMBER: usize = 83;
 pub const BLANK: usize = 84;
 
 // Lines 1 to 27 say why a step refused or what an examiner found: numbers 1 to 14, then 32 to 44.
-pub const TEXT: [u8; 2956] = *b": done (0): relocations applied: #^
+pub const TEXT: &str = ": done (0): relocations applied: #^
 : refused (1): a table has more rows than its limit
 : refused (2): a row breaks its table's rule, or tables 6 to 8 are not as long as table 3 says
 : refused (3): a relocation's symbol is not in table 2

@@ -2,16 +2,16 @@
 ghost use Rattle.std.specs.Prelude.{◌≡◌, [], ◌∷◌, ◌+◌, ◌≤◌};
 ghost use Rattle.rules.specs.Answers.{reply, reply_of};
 ghost use Rattle.tell.specs.Text.{table_line, blank_line};
-ghost use Rattle.tell.specs.Words.{digit_of, number_in, reason_line, place_line, names_run, answer_lines, answer_numbers};
+ghost use Rattle.tell.specs.Words.{digit_of, add_digit, number_in, reason_line, place_line, names_run, answer_lines, answer_numbers};
 
 use crate::text::{
     AFTER, BLANK, CALL, END, ENDS, FUNCTION, NAMES, OVER, PIECE, PIECE_RECORD, PIECE_SLOT, RECORD,
     ROW, SLOT, STARTS, TABLE,
 };
 use answers::{number, places};
-use rules::Answer;
+use rules::{Places, Refusal};
 
-// An answer's number and its places.
+// An answer's number and its places, as plain numbers: `answer` tells any four.
 #[derive(Clone, Copy)]
 pub struct Told {
     pub number: u32,
@@ -20,31 +20,29 @@ pub struct Told {
     pub c: u32,
 }
 
-pub fn told_of(answer: Answer) -> Told
-    ensures { reply result.number result.a result.b result.c ≡ reply_of answer }
-{
-    let number = number(answer);
-    let at = places(answer);
-    Told {
-        number,
-        a: at.0,
-        b: at.1,
-        c: at.2,
+impl From<Result<Places, Refusal>> for Told {
+    ghost from_gives = { λ answer told. reply told.number told.a told.b told.c ≡ reply_of answer };
+
+    fn from(answer: Result<Places, Refusal>) -> Self {
+        let at = places(answer);
+        Told {
+            number: number(answer),
+            a: at.0,
+            b: at.1,
+            c: at.2,
+        }
     }
 }
 
-// The text's line that says why: numbers 1 to 14, then 32 to 44.
+// The text's line that says why: numbers 1 to 14, then 32 to 44. A sum and no table, since `answer` is given any number.
 fn reason_line(number: u32) -> usize
     ensures { result ≡ reason_line number }
 {
     let n = number as usize;
-    if n > 31 {
-        return n - 17;
-    }
-    n
+    if n > 31 { n - 17 } else { n }
 }
 
-// By that line, the one that names the places, but for a table or a run.
+// By that line, the one that names the places, but for a table or a run: the definition's own list (specs/Words, place_lines).
 const PLACE_LINES: [usize; 28] = [
     END,
     END,
@@ -79,52 +77,55 @@ const PLACE_LINES: [usize; 28] = [
 fn place_line(k: usize) -> usize
     ensures { result ≡ place_line k }
 {
-    if k < 28 {
-        let places = PLACE_LINES;
-        return places[k];
-    }
-    END
+    PLACE_LINES.get(k).copied().unwrap_or(END)
 }
 
 // Whether a number names a run of what is shown: too long, not whole, a record over.
 fn names_run(number: u32) -> bool
     ensures { result ≡ names_run number }
 {
-    (number == 33) | ((number == 34) | (number == 44))
+    matches!(number, 33 | 34 | 44)
 }
 
-// Lines of the text, and three numbers to each.
+// Lines of the text, and three numbers to each: the two lists that `spoken_line` takes, which may be any.
 #[derive(Clone, Copy)]
 pub struct Sentence {
     pub lines: [usize; 5],
     pub numbers: [u32; 15],
 }
 
-fn answer_lines(told: Told, accepts: usize, refuses: usize, done: usize) -> [usize; 5]
-    ensures { result ≡ answer_lines told accepts refuses done }
+// The lines that a step's words begin with, where it accepts and where it refuses, and the one that a done step is told with.
+#[derive(Clone, Copy)]
+pub struct Wording {
+    pub accepts: usize,
+    pub refuses: usize,
+    pub done: usize,
+}
+
+fn answer_lines(told: Told, wording: Wording) -> [usize; 5]
+    ensures { result ≡ answer_lines told wording.accepts wording.refuses wording.done }
 {
     let why = reason_line(told.number);
     let place = place_line(why);
     let name = TABLE + told.a as usize;
+    let refuses = wording.refuses;
     if told.number == 0 {
-        return [accepts, done, BLANK, BLANK, BLANK];
+        [wording.accepts, wording.done, BLANK, BLANK, BLANK]
+    } else if told.number < 3 {
+        [refuses, why, TABLE, name, place]
+    } else if names_run(told.number) {
+        [refuses, why, name, place, BLANK]
+    } else {
+        [refuses, why, place, BLANK, BLANK]
     }
-    if told.number < 3 {
-        return [refuses, why, TABLE, name, place];
-    }
-    if names_run(told.number) {
-        return [refuses, why, name, place, BLANK];
-    }
-    [refuses, why, place, BLANK, BLANK]
 }
 
-// What a step answered: `accepts` and `refuses` are the lines that its words begin with, `done` the one that a done step is told with.
-pub fn answer(told: Told, root: u32, accepts: usize, refuses: usize, done: usize) -> Sentence
-    ensures { (result.lines ≡ answer_lines told accepts refuses done) × (result.numbers ≡ answer_numbers told root) }
+// What a step answered.
+pub fn answer(told: Told, root: u32, wording: Wording) -> Sentence
+    ensures { (result.lines ≡ answer_lines told wording.accepts wording.refuses wording.done) × (result.numbers ≡ answer_numbers told root) }
 {
-    let lines = answer_lines(told, accepts, refuses, done);
     Sentence {
-        lines,
+        lines: answer_lines(told, wording),
         numbers: [
             root, 0, 0, told.a, told.b, told.c, told.a, told.b, told.c, told.b, 0, 0, told.b, 0, 0,
         ],
@@ -153,45 +154,32 @@ pub fn of_part(file: usize, what: usize, table: u32, after: usize, a: u32, b: u3
     }
 }
 
-#[derive(Clone, Copy)]
-pub enum Number {
-    Whole(u32),
-    Not,
-}
-
-// What a digit counts, 10 for any other byte.
-fn digit(b: u8) -> u64
-    ensures { (result ≡ digit_of b) × (result ≤ 10) }
+fn digit(b: u8) -> Option<u32>
+    ensures { result ≡ digit_of b }
 {
-    if b < 48 {
-        return 10;
+    match b {
+        b'0'..=b'9' => Some(u32::from(b - b'0')),
+        _ => None,
     }
-    if b > 57 {
-        return 10;
-    }
-    (b - 48) as u64
 }
 
-// Decimal digits, one at least, that a u32 holds.
-pub fn parse(text: &[u8]) -> Number
+fn add_digit(n: u32, b: u8) -> Option<u32>
+    ensures { result ≡ add_digit n (digit_of b) }
+{
+    n.checked_mul(10)?.checked_add(digit(b)?)
+}
+
+// Decimal digits, one at least, that a u32 holds. (std's `parse` takes a sign before them.)
+#[tactic(auto, unfolding(crate::specs::Words::digits_in, crate::specs::Words::number_in))]
+pub fn parse(text: &[u8]) -> Option<u32>
     ensures { result ≡ number_in text.now }
 {
-    if text.len() == 0 {
-        return Number::Not;
+    if text.is_empty() {
+        return None;
     }
-    let mut n: u64 = 0;
-    let mut i = 0;
-    while i < text.len() {
-        let d = digit(text[i]);
-        if d == 10 {
-            return Number::Not;
-        }
-        let next = 10 * n + d;
-        if next > 0xFFFF_FFFF {
-            return Number::Not;
-        }
-        n = next;
-        i += 1;
+    let mut n = 0;
+    for b in text {
+        n = add_digit(n, *b)?;
     }
-    Number::Whole(n as u32)
+    Some(n)
 }

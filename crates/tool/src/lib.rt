@@ -8,14 +8,14 @@ mod work;
 ghost use Rattle.std.specs.Prelude.{◌≤◌};
 
 use clerk::files::{ROOT, SUBCOMMAND};
-use clerk::status::USAGE;
+use clerk::status::{Stop, status};
 use clerk::telling;
 use std::env::{Env, FillError};
 use std::fs::Files;
 use tell::commands::{Command, asked};
 use tell::room::WORD;
 use tell::text::{BLANK, NO_NUMBER};
-use tell::words::{Number, parse};
+use tell::words::parse;
 use work::Task;
 
 // How many arguments there are, the program's name among them.
@@ -29,70 +29,51 @@ fn count(rt: &impl Env) -> usize {
 }
 
 // What argument i asks for.
-fn word(rt: &impl Env, i: usize) -> Command {
+fn word(rt: &impl Env, i: usize) -> Option<Command> {
     let mut word = [0u8; WORD];
     let n = rt.arg(i, &mut word).unwrap_or(0);
     asked(&word[..n])
 }
 
-fn root(rt: &impl Env) -> Number {
+fn root(rt: &impl Env) -> Option<u32> {
     let mut digits = [0u8; WORD];
     let n = rt.arg(ROOT, &mut digits).unwrap_or(0);
     parse(&digits[..n])
 }
 
 // The task for the root that the arguments name.
-fn run(rt: &(impl Env + Files + Print + Eprint), task: Task) -> u32
-    ensures { result ≤ 4 }
-{
-    let parsed = root(rt);
-    let Number::Whole(row) = parsed else {
+fn run(rt: &(impl Env + Files + Print + Eprint), task: Task) -> Result<(), Stop> {
+    let Some(row) = root(rt) else {
         telling::complain(rt, NO_NUMBER, BLANK);
-        return USAGE;
+        return Err(Stop::Usage);
     };
     work::bark(rt, task, row)
 }
 
 // Neither subcommand with its arguments: wrong use, unless it is help with one of them that is asked for.
-fn other(rt: &(impl Env + Print + Eprint), count: usize) -> u32
-    ensures { result ≤ 4 }
-{
-    if count == 3 {
-        let second = word(rt, SUBCOMMAND + 1);
-        if let Command::Help = second {
-            return telling::help(rt);
-        }
+fn other(rt: &(impl Env + Print + Eprint), count: usize) -> Result<(), Stop> {
+    if count == 3 && word(rt, SUBCOMMAND + 1) == Some(Command::Help) {
+        telling::help(rt)
+    } else {
+        telling::usage(rt)
     }
-    telling::usage(rt)
+}
+
+fn answered(rt: &(impl Env + Files + Print + Eprint)) -> Result<(), Stop> {
+    let count = count(rt);
+    match (word(rt, SUBCOMMAND), count) {
+        (Some(Command::Help), _) => telling::help(rt),
+        (Some(Command::Link), 5) => run(rt, Task::Link),
+        (Some(Command::Link), 6) => run(rt, Task::LinkPieces),
+        (Some(Command::Examine), 6) => run(rt, Task::Examine),
+        (Some(_), _) => other(rt, count),
+        (None, _) => telling::usage(rt),
+    }
 }
 
 // bark with the arguments that the process was started with. Gives the exit status (clerk, status.rt).
-pub fn bark_run(rt: &(impl Env + Files + Print + Eprint)) -> u32
+pub fn bark_run(rt: &(impl Env + Files + Print + Eprint)) -> u8
     ensures { result ≤ 4 }
 {
-    let count = count(rt);
-    let first = word(rt, SUBCOMMAND);
-    match first {
-        Command::Help => {
-            return telling::help(rt);
-        }
-        Command::Link => {
-            if count == 5 {
-                return run(rt, Task::Link);
-            }
-            if count == 6 {
-                return run(rt, Task::LinkPieces);
-            }
-            return other(rt, count);
-        }
-        Command::Examine => {
-            if count == 6 {
-                return run(rt, Task::Examine);
-            }
-            return other(rt, count);
-        }
-        Command::Unknown => {
-            return telling::usage(rt);
-        }
-    }
+    status(answered(rt))
 }

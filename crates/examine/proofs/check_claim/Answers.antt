@@ -4,14 +4,12 @@ use mathlib.Core.Option.{none}
 use Prim.Native.Nat.{◌/◌}
 use native.Mathlib.Omega.{arith}
 use lib.ListN.{length}
-use Rattle.std.specs.Prelude.{Err}
-use Rattle.std.proofs.lemmas.Result.{err_from_is_err_and}
 use Rattle.rules.specs.Answers.{refusal_in}
 use Rattle.rules.specs.Rows.{Offered, link_offer}
 use Rattle.rules.specs.Pieces.{pieces_of}
 use Rattle.rules.specs.Examine.{Shown, shown, root_wrong, tiles_wrong}
 use Rattle.pieces.specs.Tiling.{functions_only}
-use Rattle.examine.proofs.Whole.{root_wrong_lem, tiles_wrong_lem, pieces_judged, tileable, image_few, listed_so, end_at}
+use Rattle.examine.proofs.Whole.{tileable, image_few, listed_so, end_at}
 use Rattle.examine.proofs.check_claim.Goals.{After-check_tiles, In_ok-check_root, Start}
 use Rattle.examine.proofs.check_claim.Goals as goal
 
@@ -29,29 +27,11 @@ root_first c = sym c.check_root.ensures ∙ ap refusal_in c.in_ok-check_root.was
 tiles_are : (c : After-check_tiles) → tiles_wrong (functions_only c.args.names.functions.now) (length c.args.shown.instructions.now / 8) 0 0 (pieces_of c.args.pieces.now) ≡ refusal_in c.check_tiles.result
 tiles_are c = end_at c.args.names.functions.now c.args.pieces.now c.slot_at.ensures c.check_tiles.ensures
 
-pub returns-in_err-check_root : goal.returns-in_err-check_root
-returns-in_err-check_root c =
-    let p = err_from_is_err_and c.from_residual.result c.from_residual.ensures.1 in
-    let s = (goal.at.returns-in_err-check_root c).Start in
-    ap refusal_in (p.1 ∙ ap Err p.2) ∙ sym (root_wrong_lem (tables s) (shownAt s) c.args.root (sym c.check_root.ensures ∙ ap refusal_in c.in_err-check_root.was))
-
 pub overflow_cast-end : goal.overflow_cast-end
 overflow_cast-end c = omega (arith, image_few c.requires)
 
 pub check_tiles-requires : goal.check_tiles-requires
 check_tiles-requires c = tileable c.requires
 
-pub returns-in_err-check_tiles : goal.returns-in_err-check_tiles
-returns-in_err-check_tiles c =
-    let p = err_from_is_err_and c.from_residual-in_err-check_tiles.result c.from_residual-in_err-check_tiles.ensures.1 in
-    let at = goal.at.returns-in_err-check_tiles c in
-    ap refusal_in (p.1 ∙ ap Err p.2) ∙ sym (tiles_wrong_lem (tables at.Start) (shownAt at.Start) c.args.root (root_first at.In_ok-check_root) (tiles_are at.After-check_tiles ∙ ap refusal_in c.in_err-check_tiles.was))
-
 pub check_pieces-requires : goal.check_pieces-requires
 check_pieces-requires c = listed_so c.requires (tiles_are (goal.at.check_pieces-requires c).After-check_tiles ∙ ap refusal_in c.in_ok-check_tiles.was)
-
-pub returns : goal.returns
-returns c =
-    let at = goal.at.returns c in
-    c.check_pieces.ensures
-    ∙ sym (pieces_judged (tables at.Start) (shownAt at.Start) c.args.root (root_first at.In_ok-check_root) (tiles_are at.After-check_tiles ∙ ap refusal_in c.in_ok-check_tiles.was))

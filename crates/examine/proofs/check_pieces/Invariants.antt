@@ -1,6 +1,6 @@
 -- The invariant: nothing is wrong with the pieces before piece k, whose records stand in the image.
 use mathlib.Core.Path.{◌≡◌}
-use Prim.Native.Nat.{ℕ, ◌-◌, ◌≤◌}
+use Prim.Native.Nat.{ℕ, ◌≤◌}
 use Rattle.rules.specs.declared.Table.TheVariants.{FuncInfo, LineInfo}
 use Rattle.rules.specs.Bytes.{little}
 use Rattle.rules.specs.Rows.{whole_rows, Offered, link_offer, tables_of}

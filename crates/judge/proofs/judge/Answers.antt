@@ -9,7 +9,7 @@ use Rattle.rules.specs.Rows.{Offered, function_slots, function_offset, relocatio
 use Rattle.rules.specs.Lent.{lent_maps}
 use Rattle.judge.specs.Verdicts.{symbol_verdict, Says}
 use Rattle.judge.specs.Judged.{slot_of}
-use Rattle.judge.proofs.Places.{less, not_less, at_least, not_at_least, slots_high, row_low, first_low, in_table, before_judges, past_judges, off_judges, site_judges}
+use Rattle.judge.proofs.Places.{slots_high, row_low, first_low, in_table, before_judges, past_judges, off_judges, site_judges}
 use Rattle.judge.proofs.judge.Goals.{After-function_slots-slots, After-to_offset, After-to_slot-slot, Start}
 use Rattle.judge.proofs.judge.Goals as goal
 
@@ -30,7 +30,7 @@ module _ (n : After-to_offset) where
   read = (goal.at.After-to_offset n).After-function_slots-slots
 
   starts : base read ≤ offset read
-  starts = omega (arith, not_less n.relocation_offset-offset.result.0 n.function_offset-start.result.0 (sym n.lt.ensures ∙ n.if-lt.false), n.relocation_offset-offset.ensures, n.function_offset-start.ensures)
+  starts = grind (arith, n.lt.ensures, n.if-lt.false, n.relocation_offset-offset.ensures, n.function_offset-start.ensures)
 
   far : n.offset_at-at.result.0 ≡ offset read - base read
   far = omega (arith, n.offset_at-at.ensures, n.relocation_offset-offset.ensures, n.function_offset-start.ensures)
@@ -43,19 +43,19 @@ module _ (t : After-to_slot-slot) where
   sized = (goal.at.After-to_slot-slot t).After-to_offset
 
   ends : offset (read sized) < base (read sized) + 8 * slots (read sized)
-  ends = omega (arith, not_at_least t.offset_at-at.result.0 t.to_offset.result.0 (sym t.ge.ensures ∙ t.if-ge.false), starts sized, far sized, size sized)
+  ends = grind (arith, t.ge.ensures, t.if-ge.false, starts sized, far sized, size sized)
 
   slot_is : t.to_slot-slot.result.0 ≡ slot_of (offered (goal.at.After-to_slot-slot t).Start) t.args.row t.args.k
   slot_is = omega (arith, t.to_slot-slot.ensures, far sized)
 
 pub returns-then-lt : goal.returns-then-lt
 returns-then-lt c =
-    before_judges c.requires (omega (arith, less c.relocation_offset-offset.result.0 c.function_offset-start.result.0 (sym c.lt.ensures ∙ c.if-lt.true), c.relocation_offset-offset.ensures, c.function_offset-start.ensures))
+    before_judges c.requires (grind (arith, c.lt.ensures, c.if-lt.true, c.relocation_offset-offset.ensures, c.function_offset-start.ensures))
 
 pub returns-then-ge : goal.returns-then-ge
 returns-then-ge c =
     let n = (goal.at.returns-then-ge c).After-to_offset in
-    past_judges c.requires (starts n) (omega (arith, at_least c.offset_at-at.result.0 c.to_offset.result.0 (sym c.ge.ensures ∙ c.if-ge.true), far n, size n, starts n))
+    past_judges c.requires (starts n) (grind (arith, c.ge.ensures, c.if-ge.true, far n, size n, starts n))
 
 pub returns-then-not-is_on_grid : goal.returns-then-not-is_on_grid
 returns-then-not-is_on_grid c =

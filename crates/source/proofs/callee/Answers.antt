@@ -8,5 +8,5 @@ place-at-requires c =
     omega (
       arith,
       c.function_offset.ensures,
-      (good_function c.args.functions.now c.requires.tables.functions c.args.row c.requires.row_inside).offset,
+      (good_function c.args.names.functions.now c.requires.tables.functions c.args.row c.requires.row_inside).offset,
     )

@@ -13,7 +13,7 @@ overflow_add-first c =
       fits =
           omega (
             arith,
-            c.loop-k.invariant.1,
+            c.loop-k.invariant,
             c.function_slots-slots.ensures,
             few_rows Functions t c.requires.0,
             (good_function t c.requires.0 c.loop-k.k (omega (arith, c.requires.1, c.loop-k-test.true))).slots_high,
@@ -23,6 +23,4 @@ overflow_add-first c =
     }
 
 pub loop-k-preserved : goal.loop-k-preserved
-loop-k-preserved c =
-    let t = c.args.functions.now in
-    (omega arith, omega (arith, summed_step (function_slots t) c.loop-k.k, c.loop-k.invariant.1, c.function_slots-slots.ensures))
+loop-k-preserved c = omega (arith, summed_step (function_slots c.args.functions.now) c.loop-k.k, c.loop-k.invariant, c.function_slots-slots.ensures)

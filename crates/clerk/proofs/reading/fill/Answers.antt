@@ -1,11 +1,12 @@
 -- Only the part that was lent on can have changed.
 use borrow.Rule.Slice.PartMut.{mid_of, put_mid, take_put, drop_put, mid_len, same_len_mid}
 use Rattle.std.proofs.Common.{◌≡◌, ℕ, List, ◌+◌, ◌-◌, ◌≤◌, length, ◌∙◌, arith}
-use Rattle.clerk.specs.declared.reading.Got.{Got}
+use Rattle.std.specs.Prelude.{Result}
+use Rattle.clerk.specs.declared.reading.Lack.{Lack}
 use Rattle.clerk.specs.Filled.{Filled}
 use Rattle.clerk.proofs.reading.fill.Goals as goal
 
-put_back : (at n : ℕ) (xs ys : List ℕ) (r : Got) → at + n ≤ length xs → length ys ≡ length (mid_of at (at + n - at) xs)
+put_back : (at n : ℕ) (xs ys : List ℕ) (r : Result (Unit {0}) Lack) → at + n ≤ length xs → length ys ≡ length (mid_of at (at + n - at) xs)
     → Filled at n xs (put_mid at (at + n - at) xs ys) r
 put_back at n xs ys r h e = record {
   refused = λ less. absurd (omega arith);

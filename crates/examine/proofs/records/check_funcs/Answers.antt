@@ -1,11 +1,9 @@
 -- Records are the same where each field is.
-use mathlib.Core.Path.{◌≡◌, sym, ap, ◌∙◌}
 use mathlib.Core.Bool.{Bool}
 use Prim.Native.Nat.{ℕ, ◌+◌}
 use Rattle.std.proofs.Common.{rules, of_calls}
-use Rattle.rules.specs.declared.Table.TheVariants.{FuncInfo}
 use Rattle.rules.specs.Bytes.{little}
-use Rattle.rules.specs.Rows.{whole_rows, func_info_row}
+use Rattle.rules.specs.Rows.{func_info_row}
 use Rattle.rules.specs.Examine.{same_function_record}
 use Rattle.examine.specs.Recorded.{func_of, record_wrong}
 use Rattle.examine.proofs.Same.{same_funcs}

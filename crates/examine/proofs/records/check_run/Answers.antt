@@ -1,5 +1,5 @@
 -- The invariant: nothing is wrong with the records before record j, so what is left to look at gives what was asked.
-use mathlib.Core.Path.{◌≡◌, sym, ap, ◌∙◌}
+use mathlib.Core.Path.{sym, ap, ◌∙◌}
 use mathlib.Core.Option.{some}
 use native.Mathlib.Omega.{arith}
 use Rattle.rules.specs.Answers.{number_of}

@@ -8,4 +8,4 @@ use Rattle.examine.proofs.records.check_stray.Goals as goal
 pub overflow_cast-j : goal.overflow_cast-j
 overflow_cast-j c =
     let a = c.args in
-    omega (arith, c.requires.few, stray_low a.functions.now a.line_info.now a.row _ (found_some _ _ (sym c.stray_line.ensures ∙ c.in-Some.is)))
+    omega (arith, c.requires.few, stray_low a.functions.now a.line_info.now a.piece.row _ (found_some _ _ (sym c.stray_line.ensures ∙ c.in-Some.is)))

@@ -9,9 +9,9 @@ use Rattle.rules.specs.Answers.{Reply, refusal_in}
 use Rattle.rules.specs.Rows.{Offered, function_slots, function_offset}
 use Rattle.rules.proofs.Passed.{good_function}
 use Rattle.resolve.specs.Resolves.{Resolves}
-use Rattle.resolve.proofs.Slots.{first_low}
+use Rattle.resolve.proofs.Slots.{first_low, end_inside}
 use Rattle.examine.proofs.Firsts.{wrong_step, wrong_here, wrong_end}
-use Rattle.examine.proofs.Meanings.{slot_test, slots_are, callable_at, compares_at, judged_at, with_is}
+use Rattle.examine.proofs.Meanings.{slot_test, slots_are, callable_at, judged_at, with_is}
 use Rattle.examine.proofs.slots.check_slots.Invariants.{tables_in}
 use Rattle.examine.proofs.slots.check_slots.Goals.{After-check, After-place, After-relocation, In-loop-n, Start}
 use Rattle.examine.proofs.slots.check_slots.Goals as goal
@@ -57,13 +57,20 @@ after-requires c =
     let at = goal.at.after-requires c in
     omega (arith, c.slot_at-first.ensures, first_low (resolves at.After-relocation), (good_function c.args.names.functions.now c.requires.tables.functions c.args.piece.row c.requires.row_inside).slots_high, turn at.In-loop-n, c.slot_at-slot.ensures)
 
+pub invariant_of-compared : goal.invariant_of-compared
+invariant_of-compared c =
+    let at = goal.at.invariant_of-compared c in
+    let r = resolves at.After-relocation in record {
+      own = omega (arith, c.after-in-loop-n.ensures, c.slot_at-slot.ensures, turn at.In-loop-n, c.requires.inside);
+      source = omega (arith, c.after.ensures, c.slot_at-first.ensures, r.slot_inside, end_inside r);
+      rise = c.requires.rise;
+    }
+
 pub check-requires : goal.check-requires
 check-requires c =
     let at = goal.at.check-requires c in
-    let m = c.meaning_of-meaning in (
-      compares_at c.requires c.args.piece.k c.slot_at-slot.ensures (turn at.In-loop-n) (resolves at.After-relocation) m.result m.ensures c.after-in-loop-n.ensures (omega (arith, c.after.ensures, c.slot_at-first.ensures)),
-      callable_at c.requires c.args.piece.k c.slot_at-slot.ensures (turn at.In-loop-n) (resolves at.After-relocation) m.result m.ensures,
-    )
+    let m = c.meaning_of-meaning in
+    callable_at c.requires c.args.piece.k c.slot_at-slot.ensures (turn at.In-loop-n) (resolves at.After-relocation) m.result m.ensures
 
 pub returns-in_err-check : goal.returns-in_err-check
 returns-in_err-check c =

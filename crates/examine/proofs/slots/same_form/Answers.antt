@@ -22,12 +22,12 @@ heads : (c : Joined-opcode) → let s = (goal.at.Joined-opcode c).Start in c.if-
 heads c =
     let s = (goal.at.Joined-opcode c).Start in
     elim c.if-opcode.branch [
-      then-opcode w ↦
-        w.value-is ∙ ap (λ (n : ℕ). eqb n w.destination-then-opcode.result) w.destination.ensures ∙ ap (eqb (first s).destination) w.destination-then-opcode.ensures
-        ∙ sym (ap (λ b. b && eqb (first s).destination (second s).destination) (eq-eqb (first s).opcode (second s).opcode (sym c.opcode.ensures ∙ w.if-opcode.true ∙ c.opcode-2.ensures)))
-    | else-opcode w ↦
-        w.value-is ∙ ne_eqb c.opcode.result c.opcode-2.result w.if-opcode.false
-        ∙ sym (ap (λ b. b && eqb (first s).destination (second s).destination) (ne_eqb (first s).opcode (second s).opcode (λ e. w.if-opcode.false (c.opcode.ensures ∙ e ∙ sym c.opcode-2.ensures))))
+      | then-opcode w ↦
+          w.value-is ∙ ap (λ (n : ℕ). eqb n w.destination-then-opcode.result) w.destination.ensures ∙ ap (eqb (first s).destination) w.destination-then-opcode.ensures
+          ∙ sym (ap (λ b. b && eqb (first s).destination (second s).destination) (eq-eqb (first s).opcode (second s).opcode (sym c.opcode.ensures ∙ w.if-opcode.true ∙ c.opcode-2.ensures)))
+      | else-opcode w ↦
+          w.value-is ∙ ne_eqb c.opcode.result c.opcode-2.result w.if-opcode.false
+          ∙ sym (ap (λ b. b && eqb (first s).destination (second s).destination) (ne_eqb (first s).opcode (second s).opcode (λ e. w.if-opcode.false (c.opcode.ensures ∙ e ∙ sym c.opcode-2.ensures))))
     ]
 
 pub returns-then-destination : goal.returns-then-destination

@@ -1,8 +1,7 @@
-use Rattle.std.proofs.Common.{length, ◌-◌, ◌<◌}
+-- The sum over the bytes so far.
+use Rattle.std.proofs.Common.{◌≡◌, take}
+use Rattle.replay.specs.Shown.{checksum}
 use Rattle.replay.proofs.show.checksum.Given as goal
 
-abbrev pub invariant-loop-i : goal.invariant-loop-i
-invariant-loop-i l = l.sum < 0x1_0000_0000
-
-abbrev pub decreases-loop-i : goal.decreases-loop-i
-decreases-loop-i l = length l.s - l.i
+abbrev pub invariant-loop-b : goal.invariant-loop-b
+invariant-loop-b l = l.sum ≡ checksum (take l.b-index l.bytes)

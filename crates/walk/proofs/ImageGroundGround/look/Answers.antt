@@ -1,7 +1,9 @@
 -- Outside the image there is nothing; inside, the slot of the lent bytes is the image's.
 use mathlib.Core.Path.{◌≡◌, sym, ap, ◌∙◌}
+use Prim.Native.Nat.{ℕ}
 use mir.Syntax.{w64}
 use mir.ValLaws.{to_z-of_z}
+use Rattle.std.specs.Prelude.{Some}
 use Rattle.rules.specs.Walk.{in_image}
 use Rattle.walk.specs.Moves.{move_of, image_in}
 use Rattle.walk.proofs.Leads.{seen, sees}
@@ -20,4 +22,4 @@ returns-in_err-slot_in c =
 
 pub returns : goal.returns
 returns c =
-    c.leads_at.ensures ∙ ap (seen c.args.self.now.ground) (sym c.in_ok-slot_in.was) ∙ sees_here (goal.at.returns c).After-slot_in
+    c.leads_at.ensures ∙ ap (λ (k : ℕ). seen c.args.self.now.ground (Some k)) c.slot_at-slot.ensures ∙ ap (seen c.args.self.now.ground) (sym c.in_ok-slot_in.was) ∙ sees_here (goal.at.returns c).After-slot_in

@@ -14,8 +14,9 @@ invariant_of-result c =
     let s = c.args.self in
     let t = s.relocations.now in
     let place = c.args.offset.0 in record {
+      sound = s.sound;
       stands = c.unwrap_or-row.ensures
-          ∙ moved t c.requires.0 s.home place s.row c.find.result (omega (arith, s.stands, before_rises t c.requires.0 s.home s.offset.0 place c.requires.1))
+          ∙ moved t s.sound s.home place s.row c.find.result (omega (arith, s.stands, before_rises t s.sound s.home s.offset.0 place c.requires))
           (first_from_Range _ _ _ c.find.result (λ k. relocation_is_before t s.home place k ≡ false) (λ k. relocation_is_before t s.home place k ≡ true) c.find.ensures.ran
           (λ x q k. search (rules, tests)) (λ x q k. search (rules, tests)));
     }
