@@ -1,4 +1,5 @@
-// The first row of a checked table that has the numbers asked for.
+// The first row of a checked table that has the numbers asked for. A search is `find` over row numbers, by the test of one row; that
+// the table was checked (`Sound`) is asked of the bytes, since docs/CLAIMS.md names these functions and their callers hold bytes.
 ghost use Rattle.std.specs.Prelude.{◌≡◌, ◌+◌, ◌*◌, ◌≤◌, length};
 ghost use Rattle.rules.specs.declared.Table.TheVariants.{Code, Symbols, Functions, Relocations, Maps};
 ghost use Rattle.rules.specs.Rows.{row_size, whole_rows};
@@ -95,22 +96,17 @@ pub fn find_relocation(t: &[u8], home: u32, offset: ByteOffset) -> Option<usize>
     (0..t.len() / RELOCATION_SIZE).find(|k| is_relocation(t, *k, home, offset))
 }
 
-// How many relocations stand before (home, offset), by halving: rows are bytes and no slice of rows, so there is no partition_point to call.
+// How many relocations stand before (home, offset).
 pub fn relocations_before(t: &[u8], home: u32, offset: ByteOffset) -> usize
     requires { Sound Relocations t.now }
     ensures { (result ≡ relocations_before t.now home offset.0) × (result ≤ whole_rows Relocations t.now) }
 {
-    let mut low = 0;
-    let mut high = t.len() / RELOCATION_SIZE;
-    while low < high {
-        let mid = low + (high - low) / 2;
-        if is_relocation_before(t, mid, home, offset) {
-            low = mid + 1;
-        } else {
-            high = mid;
-        }
-    }
-    low
+    let (rows, _) = t.as_chunks::<RELOCATION_SIZE>();
+    rows.partition_point(
+        |row: &[u8; RELOCATION_SIZE]| -> bool
+            ensures { result ≡ relocation_is_before row.now home offset.0 0 }
+        { is_relocation_before(row, 0, home, offset) },
+    )
 }
 
 pub fn find_map_symbol(t: &[u8], symbol: u32) -> Option<usize>

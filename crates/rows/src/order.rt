@@ -1,4 +1,5 @@
-// Two numbers of a row as a pair: a section, and an address or an offset in it. The order of a tuple branches on its first; these have no branch.
+// Two numbers of a row as a pair: a section, and an address or an offset in it.
+// Bools joined by & and |, as the definitions join them (docs/DECISIONS.md), in place of a tuple's order.
 ghost use Rattle.std.specs.Prelude.{◌≡◌, ◌&&◌, eqb};
 ghost use Rattle.rules.specs.Rows.{below};
 
