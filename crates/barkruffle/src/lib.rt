@@ -141,7 +141,7 @@ pub fn barkruffle_link_rows(
     barkruffle_link(names, program, root, image, places)
 }
 
-// No row of lent rows: a slice has fewer.
+// No row of lent rows: a slice has fewer. C has no Option.
 const NO_ROW: u64 = 0xFFFF_FFFF_FFFF_FFFF;
 
 fn row_number(found: Option<usize>) -> u64

@@ -1,4 +1,5 @@
 // The names that C calls, as include/barkruffle.h declares them: each hands over to the library's entry, under the same contract.
+// Twelve functions with slices side by side, since C has no generics, no methods and no slices in a struct.
 #![tactic(auto)]
 
 ghost use Rattle.std.specs.Prelude.{length};

@@ -13,7 +13,8 @@ pub const IMAGE: usize = 4;
 
 pub const PIECES: usize = 5;
 
-// The system's numbers for an argument that is not there, for a name that has no room, and for one that is not text.
+// The system's numbers for an argument that is not there, for a name that has no room, and for one that is not text. std has
+// no names for them.
 const EINVAL: i32 = 22;
 
 const ENAMETOOLONG: i32 = 36;

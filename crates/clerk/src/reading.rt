@@ -17,6 +17,7 @@ pub struct Taken {
 }
 
 // Fills `buf`. A file that ends before and a read that fails are told apart. (std's `read_exact` tells no bytes.)
+// The loop's step is what a read gave, so it is no `for`.
 pub fn take(reader: &mut impl io::Read, buf: &mut [u8]) -> Taken
     ensures { (length buf.new ≡ length buf.old) × (result.bytes ≤ length buf.old) }
 {
@@ -107,7 +108,7 @@ fn read_lengths(reader: &mut impl io::Read, lengths: &mut [u8]) -> Result<(), Un
     })
 }
 
-// The bytes that a table may have: what bark has room for, or any number.
+// The bytes that a table may have: what bark has room for, or any number. There is no third, so a yes or no says which.
 fn most_of(bounded: bool, table: Table) -> u32
     ensures { result ≡ most_of bounded table }
 {

@@ -12,6 +12,6 @@ use Rattle.rules.specs.Examine.{Shown, examine_entry}
 use Rattle.rules.specs.Demand3.{ShownKept}
 use Rattle.rules.proofs.Verdicts.{examined_keeps_path}
 
-pub examine_keeps_path : (o : Offered) (root : ℕ) (s : Shown) (a : (Result Places Refusal)) → reply_of a ≡ examine_entry little o root s → AreBytes s.func_info → AreBytes s.line_info
+pub examine_keeps_path : (o : Offered) (root : ℕ) (s : Shown) (a : Result Places Refusal) → reply_of a ≡ examine_entry little o root s → AreBytes s.func_info → AreBytes s.line_info
     → (reply_of a).number ≡ 0 → ShownKept little o root s
 examine_keeps_path o root s a said functions lines yes-is = examined_keeps_path little o root s functions lines (sym (ap (λ r. r.number) said) ∙ yes-is)

@@ -6,21 +6,20 @@ use Rattle.rules.specs.declared.Table.{Table}
 use Rattle.rules.specs.declared.Table.TheVariants.{Functions, FuncInfo, LineInfo}
 use Rattle.rules.specs.Bytes.{little}
 use Rattle.rules.specs.Answers.{Reply, reply}
-use Rattle.rules.specs.Tables.{FunctionRecord}
-use Rattle.rules.specs.Tables as records
+use Rattle.rules.specs.Tables.{FunctionRecord, LineRecord}
 use Rattle.rules.specs.Records.{started_at, rebased}
 use Rattle.rules.specs.Rows.{row_size, most_rows, most_image_functions, most_image_lines, whole_rows, table_number, or_else, record_slot, func_info_row, line_info_row, function_slots, function_func_info, function_line_info}
 use Rattle.rules.specs.Examine.{same_function_record, same_line_record, first_wrong}
 use Rattle.merge.specs.declared.Used.{Used}
-use Rattle.examine.specs.declared.records.FuncRecord.{FuncRecord}
-use Rattle.examine.specs.declared.records.LineRecord.{LineRecord}
+use Rattle.examine.specs.declared.records.FuncRecord as read
+use Rattle.examine.specs.declared.records.LineRecord as read_line
 use Rattle.merge.specs.Merge.{PartBegins, Lined, stray_in}
 
 -- a record as code has it
-abbrev pub func_read : FuncRecord → FunctionRecord
+abbrev pub func_read : read.FuncRecord → FunctionRecord
 func_read r = record { slot = r.slot; kind = r.kind }
 
-abbrev pub line_read : LineRecord → records.LineRecord
+abbrev pub line_read : read_line.LineRecord → LineRecord
 line_read r = record { slot = r.slot; file = r.file; line = r.line; column = r.column }
 
 -- a record as piece k should have it, "the first piece's unchanged, later ones as appended"
@@ -28,7 +27,7 @@ abbrev pub func_of : ℕ → ℕ → FunctionRecord → FunctionRecord
 func_of zero start r = r
 func_of (suc k) start r = started_at start r
 
-abbrev pub line_of : ℕ → ℕ → ℕ → records.LineRecord → records.LineRecord
+abbrev pub line_of : ℕ → ℕ → ℕ → LineRecord → LineRecord
 line_of zero origin start l = l
 line_of (suc k) origin start l = rebased origin start l
 
@@ -63,7 +62,7 @@ stray_of zero row found = none
 stray_of (suc k) row found = stray_reply row found
 
 -- a record that can be moved: the difference is one, and the sum a u32
-abbrev pub Movable : ℕ → ℕ → ℕ → records.LineRecord → Type 0
+abbrev pub Movable : ℕ → ℕ → ℕ → LineRecord → Type 0
 Movable zero origin start l = Unit {0}
 Movable (suc k) origin start l = (origin ≤ l.slot) × (start + (l.slot - origin) < 0x1_0000_0000)
 

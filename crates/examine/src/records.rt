@@ -131,7 +131,7 @@ fn check_funcs(func_info: &[u8], shown: &[u8], piece: Piece, count: u32) -> Resu
     })
 }
 
-// Its line records, `count` of table 8.
+// Its line records, `count` of table 8: these move by the first one's slot, so there has to be one.
 fn check_lines(line_info: &[u8], shown: &[u8], piece: Piece, count: u32) -> Result<(), Refusal>
     requires { Lines line_info.now piece.part.lines count piece.lines piece.k piece.start.0 }
     ensures { refusal_in result

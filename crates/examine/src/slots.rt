@@ -26,7 +26,8 @@ use rules::{Cause, Names, Refusal, Slot};
 use walk::ahead;
 use wire::{u16_at, u32_at, u64_at};
 
-// Three comparisons, each of other bytes: one word is quicker than its fields, and three fields lie in two words.
+// Three comparisons, each of other bytes: one word is quicker than its fields, and three fields lie in two words. They take the slices themselves,
+// and are no methods of `Compared`: that its items are bytes is known of a slice that is a parameter, not of a field.
 
 // All that a reference may not change.
 fn same_form(a: &[u8], i: Slot, b: &[u8], j: Slot) -> bool
@@ -88,6 +89,7 @@ impl Compared<'_> {
         Err(finding(Cause::WrongTarget, self.k, self.slot.0, callee))
     }
 
+    // A call keeps its source register; a reference (below) gets 4.
     fn check_call(self, callee: u32) -> Result<(), Refusal>
         ensures { refusal_in result ≡ call_wrong (pieces_of self.entry.pieces.now) self.entry.k self.entry.slot.0 self.entry.here.0
             (slot_in little self.entry.instructions.now self.entry.at.0) (slot_in little self.entry.image.now self.entry.here.0) callee }

@@ -1,4 +1,4 @@
--- Each answer says what document 01's order of judging says: one law for each way out.
+-- Each answer says what document 01's order of judging says: a law for each way out that the check does not find alone.
 -- Assumes nothing.
 use mathlib.Core.Path.{◌≡◌, refl, sym, ap, ◌∙◌}
 use mathlib.Core.Logic.{◌⊎◌, inl, inr, ⊎_elim}
@@ -11,21 +11,18 @@ use borrow.Author.Tests.{eq-eqb, ne_eqb, ltb-true}
 use lib.IntN.{ℤ, pos, negsuc, ◌+ℤ◌}
 use mir.Syntax.{w32}
 use mir.Val.{SFits}
-use Rattle.rules.specs.declared.Cause.{Cause}
 use Rattle.rules.specs.declared.Cause.TheVariants.{UnknownSymbol, SectionNotFound, NotWideLoad, ValueOutside}
-use Rattle.rules.specs.declared.Refusal.{Refusal}
-use Rattle.std.specs.Prelude.{Ok, Err, Some, None}
+use Rattle.std.specs.Prelude.{Some}
 use Rattle.rules.specs.declared.Table.TheVariants.{Maps}
 use Rattle.rules.specs.Bytes.{half32}
-use Rattle.rules.specs.Answers.{Reply, reply, number_of, refused_reply}
-use Rattle.rules.specs.Tables.{SymbolKind, other, text, section, MapRow, Tables}
+use Rattle.rules.specs.Tables.{text, Tables}
 use denote.Enum.Bare.{sameb}
 use Rattle.rules.specs.contracts.SymbolKind as kinds
 use Rattle.rules.specs.declared.SymbolKind as coded
 use Rattle.rules.specs.declared.SymbolKind.TheVariants.{Other, Text, Section}
 use Rattle.rules.specs.Maps as step
 use Rattle.rules.specs.Maps.{or_else, fits32, by_map, by_kind}
-use Rattle.rules.specs.Rows.{none_number, with_data, whole_rows, or_none, kind_in, kind_of, symbol_section, symbol_address, symbol_kind, map_fd, map_has_data, map_row}
+use Rattle.rules.specs.Rows.{none_number, with_data, whole_rows, or_none, kind_in, kind_of, symbol_section, symbol_address, symbol_kind, map_has_data, map_row}
 use Rattle.rules.specs.Lookups.{found_of, is_code_section, symbol_with, map_with_symbol, map_of_section, read_row}
 use Rattle.rows.proofs.Laws.{map_symbol_found, map_section_found}
 use Rattle.judge.specs.declared.Site.{Site}
@@ -42,26 +39,15 @@ outside_fits z n = go (fits32 z) refl
     go true e = absurd (n (inside_fits z e))
     go false e = refl
 
--- ---- a refusal, at the site
-pub refused_says : (cause : Cause) (site : Site) (r : Refusal) → refused_reply r ≡ reply (number_of cause) site.row site.slot.0 0 → Says site (refused_for cause) (Err r)
-refused_says cause site r e = record { says = λ tables. ap (λ (x : Reply). step.refused x.number) e; places = ap (λ (x : Reply). x.places) e }
-
 -- ---- a verdict that is the same in other words
 says_same : (site : Site) (v w : Tables → step.Verdict) → ((tables : Tables) → v tables ≡ w tables) → (r : Verdict) → Says site v r → Says site w r
 says_same site v w e r s = record { says = λ tables. s.says tables ∙ e tables; places = s.places }
 
 -- ---- "with data, 7"
 module _ (maps : List ℕ) (m address : ℕ) (site : Site) where
-  pub plain_says : (fd : ℤ) → fd ≡ map_fd maps m → (map_has_data maps m ≡ with_data → ⊥) → Says site (data_verdict maps m address site) (Ok (Some (record { here = site.here; fd = fd; value = None })))
-  plain_says fd e n = record { says = λ tables. rw (e, ne_eqb (map_has_data maps m) with_data n); places = (refl, tt) }
-
   module _ (with-data : map_has_data maps m ≡ with_data) where
     pub outside_says : fits32 (site.imm +ℤ pos address) ≡ false → (r : Verdict) → Says site (refused_for ValueOutside) r → Says site (data_verdict maps m address site) r
     outside_says e = says_same site _ _ (λ tables. rw (eq-eqb (map_has_data maps m) with_data with-data, e))
-
-    pub valued_says : (fd value : ℤ) → fd ≡ map_fd maps m → value ≡ site.imm +ℤ pos address → fits32 (site.imm +ℤ pos address) ≡ true → site.wide ≡ true
-        → Says site (data_verdict maps m address site) (Ok (Some (record { here = site.here; fd = fd; value = Some value })))
-    valued_says fd value e v f w = record { says = λ tables. rw (e, v, eq-eqb (map_has_data maps m) with_data with-data, f); places = (refl, w) }
 
 -- ---- rows found are rows
 some_found : (a b : Option ℕ) (k : ℕ) → or_else a b ≡ some k → (found_of a ≡ Some k) ⊎ (found_of b ≡ Some k)
@@ -92,11 +78,6 @@ module _ (maps : List ℕ) (symbol home address : ℕ) (site : Site) where
     map_says e = says_same site _ _ (λ tables. sym (found_map tables true e))
 
 -- ---- "skip if the symbol has no section; skip if the slot is a call or the section is in table 1; 5 if the kind is Text"
-not_text : (tables : Tables) (m : Option MapRow) (wide : Bool) (sum : ℤ) (kind : SymbolKind) → (kind ≡ text → ⊥) → by_kind tables kind m wide sum ≡ by_map tables m wide sum
-not_text tables m wide sum other n = refl
-not_text tables m wide sum text n = absurd (n refl)
-not_text tables m wide sum section n = refl
-
 -- as code has it
 module _ (n : ℕ) (kind : coded.SymbolKind) (e : kind_in kind ≡ kind_of n) where
   pub is_text : sameb kinds.the_type kind Text ≡ true → kind_of n ≡ text
@@ -107,18 +88,7 @@ module _ (n : ℕ) (kind : coded.SymbolKind) (e : kind_in kind ≡ kind_of n) wh
       go Text s = refl
       go Section s = let z : ◌≡◌ {A = ℕ} 0 1 = cc in absurd (omega arith)
 
-  pub is_not_text : sameb kinds.the_type kind Text ≡ false → kind_of n ≡ text → ⊥
-  is_not_text s f = go kind s (e ∙ f)
-    where
-      go : (k : coded.SymbolKind) → sameb kinds.the_type k Text ≡ false → kind_in k ≡ text → ⊥
-      go Other s f = let z : ◌≡◌ {A = ℕ} 0 1 = cc in omega arith
-      go Text s f = let z : ◌≡◌ {A = ℕ} 0 1 = cc in omega arith
-      go Section s f = let z : ◌≡◌ {A = ℕ} 0 1 = cc in omega arith
-
 module _ (code symbols maps : List ℕ) (s symbol : ℕ) (site : Site) where
-  pub no_section_says : symbol_section symbols s ≡ none_number → Says site (row_verdict code symbols maps s symbol site) (Ok None)
-  no_section_says e = record { says = λ tables. rw (eq-eqb (symbol_section symbols s) none_number e); places = tt }
-
   -- the symbol has a section
   module _ (home : ℕ) (home-is : home ≡ symbol_section symbols s) (named : home ≡ none_number → ⊥) where
     section_is : or_none (symbol_section symbols s) ≡ some home
@@ -131,14 +101,8 @@ module _ (code symbols maps : List ℕ) (s symbol : ℕ) (site : Site) where
         ap (home_verdict code symbols maps s symbol site tables) section_is
         ∙ ap (λ b. cond b step.skipped (by_kind tables (kind_of (symbol_kind symbols s)) (read_row (map_row maps) (map_found maps symbol home)) site.wide (site.imm +ℤ pos (symbol_address symbols s)))) e
 
-    pub call_says : site.call ≡ true → Says site (row_verdict code symbols maps s symbol site) (Ok None)
-    call_says e = record { says = λ tables. sym (by_section tables true (ap (λ b. b || is_code_section code home) e)); places = tt }
-
     -- not a call
     module _ (no_call : site.call ≡ false) where
-      pub code_says : is_code_section code home ≡ true → Says site (row_verdict code symbols maps s symbol site) (Ok None)
-      code_says e = record { says = λ tables. sym (by_section tables true (ap (λ b. b || is_code_section code home) no_call ∙ e)); places = tt }
-
       -- nor code
       module _ (no_code : is_code_section code home ≡ false) where
         judged : (tables : Tables) → row_verdict code symbols maps s symbol site tables
@@ -150,18 +114,7 @@ module _ (code symbols maps : List ℕ) (s symbol : ℕ) (site : Site) where
             says_same site _ _ (λ tables. sym (judged tables
             ∙ ap (λ k. by_kind tables k (read_row (map_row maps) (map_found maps symbol home)) site.wide (site.imm +ℤ pos (symbol_address symbols s))) e))
 
-        pub row_says : (kind_of (symbol_kind symbols s) ≡ text → ⊥) → (address : ℕ) → address ≡ symbol_address symbols s → (r : Verdict)
-            → Says site (map_verdict maps symbol home address site) r → Says site (row_verdict code symbols maps s symbol site) r
-        row_says d address e =
-            says_same site _ _ (λ tables.
-            ap (λ a. by_map tables (read_row (map_row maps) (map_found maps symbol home)) site.wide (site.imm +ℤ pos a)) e
-            ∙ sym (judged tables ∙ not_text tables (read_row (map_row maps) (map_found maps symbol home)) site.wide (site.imm +ℤ pos (symbol_address symbols s)) (kind_of (symbol_kind symbols s)) d))
-
 -- ---- "3"
 module _ (code symbols maps : List ℕ) (symbol : ℕ) (site : Site) where
   pub unknown_says : symbol_with symbols symbol ≡ none → (r : Verdict) → Says site (refused_for UnknownSymbol) r → Says site (symbol_verdict code symbols maps symbol site) r
   unknown_says e = says_same site _ _ (λ tables. sym (ap (found_verdict code symbols maps symbol site tables) e))
-
-  pub symbol_says : (s : ℕ) → symbol_with symbols symbol ≡ some s → (r : Verdict) → Says site (row_verdict code symbols maps s symbol site) r
-      → Says site (symbol_verdict code symbols maps symbol site) r
-  symbol_says s e = says_same site _ _ (λ tables. sym (ap (found_verdict code symbols maps symbol site tables) e))

@@ -21,14 +21,15 @@ use rules::{Cause, Image, Names, Places, Program, Refusal, Slot};
 use tables::checks::check_link;
 use wire::wipe;
 
-// Where each function of table 3 starts in the image, 0 if it is not placed: the root has a slot, so no callee starts at 0.
+// Where each function of table 3 starts in the image, 0 if it is not placed: the root has a slot, so no callee starts at 0. An array by
+// value in fixed memory, the form that document 01 names.
 #[derive(Clone, Copy)]
 pub struct State {
     pub starts: [u16; MOST_FUNCTIONS],
     pub used: Used,
 }
 
-// A call, or a reference, to the function that starts there.
+// A call, or a reference, to the function that starts there: the flag is `pointed_to`'s.
 fn point(image: &mut [u8], here: Slot, start: Slot, reference: bool)
     requires { (slot_size * here.0 + slot_size ≤ length image.old)
         × ((start.0 < most_image_slots) × (here.0 < most_image_slots)) }
@@ -54,7 +55,14 @@ fn link_function(
     ensures added { Added (lent names.entry program.entry) st (lent_image image.old) row result (lent_image image.new) }
     ensures same { SameOutputs image.old image.new }
 {
-    if !has_room(names.functions, image, st.used, row) {
+    if !has_room(
+        names.functions,
+        image.slots.len(),
+        image.func_info.len(),
+        image.line_info.len(),
+        st.used,
+        row,
+    ) {
         return Err(refusal(Cause::NoRoom, row as u32, 0));
     }
     let part = part_of(names.functions, row);
@@ -119,6 +127,7 @@ fn relocate(
     for slot in 0..slots.0 {
         let here = slot_at(slot);
         let at = place(offset, here);
+        // nested in the visit and yielded by break, with a cursor that stays: the form that document 01 names
         let rel = loop {
             if cur == n {
                 break None;
@@ -148,7 +157,8 @@ pub struct Linked {
     pub starts: [u16; MOST_FUNCTIONS],
 }
 
-// Over checked tables, into outputs that are zero. A refusal leaves them to be wiped.
+// Over checked tables, into outputs that are zero. A refusal leaves them to be wiped. The outputs come as slices and not as an Image: that
+// what they hold are bytes is known of a slice that is lent, and not of one in a struct.
 fn link_checked(
     names: Names,
     program: Program,
@@ -171,7 +181,14 @@ fn link_checked(
         func_info,
         line_info,
     };
-    if !has_room(names.functions, &image, Used::default(), row) {
+    if !has_room(
+        names.functions,
+        image.slots.len(),
+        image.func_info.len(),
+        image.line_info.len(),
+        Used::default(),
+        row,
+    ) {
         return Err(refusal(Cause::NoRoom, root, 0));
     }
     let part = part_of(names.functions, row);

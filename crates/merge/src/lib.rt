@@ -80,29 +80,36 @@ fn fits(used: u32, more: u32, bytes: usize, size: usize, most: usize) -> bool
     n <= most && n <= bytes / size
 }
 
-// Whether a row's part fits behind what the image holds.
+// Whether a row's part fits behind what is used, of outputs of so many bytes.
 #[tactic(auto, unfolding(crate::specs::Merge::room_bytes))]
-pub fn has_room(functions: &[u8], image: &Image, used: Used, row: usize) -> bool
+pub fn has_room(
+    functions: &[u8],
+    image: usize,
+    funcs: usize,
+    lines: usize,
+    used: Used,
+    row: usize,
+) -> bool
     requires { row < whole_rows Functions functions.now }
-    ensures { result ≡ room_bytes functions.now (length image.now.slots.now) (length image.now.func_info.now) (length image.now.line_info.now) used row }
+    ensures { result ≡ room_bytes functions.now image funcs lines used row }
 {
     let added = counts(functions, row);
     fits(
         used.slots,
         added.slots,
-        image.slots.len(),
+        image,
         INSTRUCTION_SIZE,
         MOST_IMAGE_SLOTS,
     ) && fits(
         used.funcs,
         added.funcs,
-        image.func_info.len(),
+        funcs,
         FUNC_INFO_SIZE,
         MOST_IMAGE_FUNC_INFO,
     ) && fits(
         used.lines,
         added.lines,
-        image.line_info.len(),
+        lines,
         LINE_INFO_SIZE,
         MOST_IMAGE_LINE_INFO,
     )

@@ -1,4 +1,4 @@
-// The fields of row k of a list.
+// The fields of row k of a list: a reader for each by its name, as rows has them.
 ghost use Rattle.std.specs.Prelude.{◌≡◌, ◌+◌, ◌*◌, ◌≤◌, length};
 ghost use Rattle.rules.specs.Pieces.{piece_size, piece_row, piece_start};
 

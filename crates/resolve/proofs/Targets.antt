@@ -1,20 +1,22 @@
 -- Where a symbol leads, case by case, and a target as the code holds it.
 -- Assumes nothing.
-use mathlib.Core.Path.{◌≡◌, refl, ap, ◌∙◌}
-use mathlib.Core.Bool.{Bool, true, false, cond}
+use mathlib.Core.Path.{◌≡◌, refl, sym, ap, ◌∙◌}
+use mathlib.Core.Logic.{◌⊎◌, inl, inr}
+use mathlib.Core.Bool.{Bool, true, false}
 use mathlib.Core.Option.{Option, none, some}
 use mathlib.Core.List.{List, []}
 use Prim.Native.Nat.{ℕ, ◌+◌, ◌*◌}
 use borrow.Author.Tests.{ne_eqb}
-use lib.Dec.{eqb}
 use lib.IntN.{ℤ, pos, ◌+ℤ◌}
 use mir.Syntax.{w32, w64}
 use mir.Val.{to_z, of_z, SFits}
 use mir.ValLaws.{to_z-of_z}
 use Rattle.rules.specs.Object.{Insn, is_call, Named, nothing, unclear}
 use Rattle.rules.specs.Bytes.{little}
-use Rattle.rules.specs.Tables.{SymbolKind, other, section, function_at, is_code, by_code, by_symbol, by_symbol_row, by_relocation, or_missing, slots_on}
-use Rattle.rules.specs.Rows.{none_number, other_kind, text_kind, kind_of, or_none, Offered, map_step_offer, tables_of, function_section, function_offset, function_row, relocation_symbol, relocation_size, relocation_row, symbol_row}
+use Rattle.rules.specs.declared.SymbolKind as coded
+use Rattle.rules.specs.declared.SymbolKind.TheVariants.{Other, Text, Section}
+use Rattle.rules.specs.Tables.{section, function_at, is_code, by_code, by_symbol, by_symbol_row, by_relocation, or_missing, slots_on}
+use Rattle.rules.specs.Rows.{none_number, kind_in, or_none, Offered, map_step_offer, tables_of, function_section, function_offset, function_row, relocation_symbol, relocation_size, relocation_row, symbol_row}
 use Rattle.rules.specs.Lookups.{found_of, function_with, symbol_with, is_code_section, read_row}
 use Rattle.rules.proofs.Reading.{code_is, symbol_is, function_is}
 use Rattle.resolve.specs.Means.{option_of, targets}
@@ -36,52 +38,31 @@ pub option_found : (o : Option ℕ) → option_of (found_of o) ≡ o
 option_found none = refl
 option_found (some k) = refl
 
--- any kind but Text
-abbrev kind_or : Bool → SymbolKind
-kind_or b = cond b other section
-
 module _ (code functions : List ℕ) where
   pub at_is : (home : ℕ) (address : ℤ) → function_at (targets code functions) home address ≡ or_missing (function_with functions home address)
   at_is home address = ap or_missing (function_is little (map_step_offer code [] functions [] [] []) home address)
 
-  module _ (kind home address size : ℕ) (immediate : ℤ) where
-    abbrev named : Named
-    named = by_symbol (targets code functions) (kind_of kind) (or_none home) address size immediate
+  module _ (home address size : ℕ) (immediate : ℤ) (somewhere : home ≡ none_number → ⊥) where
+    abbrev named : coded.SymbolKind → Named
+    named kind = by_symbol (targets code functions) (kind_in kind) (or_none home) address size immediate
 
-    no_text : (kind ≡ text_kind → ⊥) → kind_of kind ≡ kind_or (eqb kind other_kind)
-    no_text n = rw (ne_eqb kind text_kind n)
+    pub text_at : named Text ≡ or_missing (function_with functions home (pos address))
+    text_at = rw (ne_eqb home none_number somewhere) (at_is home (pos address))
 
-    pub nowhere_text : home ≡ none_number → kind ≡ text_kind → named ≡ unclear 8
-    nowhere_text e k = rw (e, k)
+    is_code_lem : {b : Bool} → is_code_section code home ≡ b → is_code (targets code functions) home ≡ b
+    is_code_lem e = code_is little (map_step_offer code [] functions [] [] []) home ∙ e
 
-    pub nowhere_else : home ≡ none_number → (kind ≡ text_kind → ⊥) → named ≡ nothing
-    nowhere_else e k = rw (e, no_text k) (go (eqb kind other_kind))
-      where
-        go : (b : Bool) → by_symbol (targets code functions) (kind_or b) (or_none none_number) address size immediate ≡ nothing
-        go true = refl
-        go false = refl
+    -- any kind but Text
+    pub no_code : (kind : coded.SymbolKind) → (kind ≡ Other) ⊎ (kind ≡ Section) → false ≡ is_code_section code home → nothing ≡ named kind
+    no_code kind (inl k) e = rw (k, ne_eqb home none_number somewhere, is_code_lem (sym e)) refl
+    no_code kind (inr k) e = rw (k, ne_eqb home none_number somewhere, is_code_lem (sym e)) refl
 
-    module _ (somewhere : home ≡ none_number → ⊥) where
-      pub text_at : kind ≡ text_kind → named ≡ or_missing (function_with functions home (pos address))
-      text_at k = rw (k, ne_eqb home none_number somewhere) (at_is home (pos address))
+    pub other_code : true ≡ is_code_section code home → unclear 8 ≡ named Other
+    other_code e = rw (ne_eqb home none_number somewhere, is_code_lem (sym e)) refl
 
-      is_code_lem : {b : Bool} → is_code_section code home ≡ b → is_code (targets code functions) home ≡ b
-      is_code_lem e = code_is little (map_step_offer code [] functions [] [] []) home ∙ e
-
-      pub no_code : (kind ≡ text_kind → ⊥) → is_code_section code home ≡ false → named ≡ nothing
-      no_code k e = rw (no_text k) (go (eqb kind other_kind))
-        where
-          go : (b : Bool) → by_symbol (targets code functions) (kind_or b) (or_none home) address size immediate ≡ nothing
-          go true = rw (ne_eqb home none_number somewhere, is_code_lem e)
-          go false = rw (ne_eqb home none_number somewhere, is_code_lem e)
-
-      pub other_code : kind ≡ other_kind → is_code_section code home ≡ true → named ≡ unclear 8
-      other_code k e = rw (k, ne_eqb home none_number somewhere, is_code_lem e)
-
-      pub section_code : (kind ≡ text_kind → ⊥) → (kind ≡ other_kind → ⊥) → is_code_section code home ≡ true
-          → named ≡ by_code (targets [] functions) section (some home) address size immediate
-      unfolding tables_of
-      section_code k z e = rw (no_text k, ne_eqb kind other_kind z, ne_eqb home none_number somewhere, is_code_lem e)
+    pub section_code : true ≡ is_code_section code home → named Section ≡ by_code (targets [] functions) section (some home) address size immediate
+    unfolding tables_of
+    section_code e = rw (ne_eqb home none_number somewhere, is_code_lem (sym e))
 
 -- what a slot names, by its relocation
 module _ (o : Offered) (row slot : ℕ) (i : Insn) where

@@ -8,7 +8,7 @@ ghost use Rattle.rules.specs.Bytes.{little, slot_in};
 ghost use Rattle.rules.specs.Lent.{lent_code};
 ghost use Rattle.rules.specs.Object as object;
 ghost use Rattle.rules.specs.Tables.{section, or_missing, slots_on, by_code, by_symbol, by_symbol_row, by_relocation, object_of};
-ghost use Rattle.rules.specs.Rows.{whole_rows, most_address, kind_of, or_none, tables_of};
+ghost use Rattle.rules.specs.Rows.{whole_rows, most_address, kind_in, or_none, tables_of};
 ghost use Rattle.rules.specs.Rows.{function_section, function_offset, function_row, relocation_symbol, relocation_size, relocation_row, symbol_row};
 ghost use Rattle.rules.specs.Lookups.{Sound, function_with, symbol_with, read_row};
 ghost use Rattle.resolve.specs.Means.{named_of, Means, option_of, targets};
@@ -21,8 +21,8 @@ use rows::fields::{
     symbol_address, symbol_kind, symbol_section,
 };
 use rows::find::{find_function, find_symbol, is_code};
-use rules::limits::{NONE, OTHER, TEXT};
-use rules::{ByteOffset, Cause, Names, Refusal, Slot};
+use rules::limits::NONE;
+use rules::{ByteOffset, Cause, Names, Refusal, Slot, SymbolKind};
 
 // Why what a slot names has no row. Numbers are document 01's.
 #[derive(Clone, Copy, PartialEq, Eq)]
@@ -73,32 +73,32 @@ pub fn by_section(
 pub fn by_symbol(
     code: &[u8],
     functions: &[u8],
-    kind: u8,
+    kind: SymbolKind,
     home: u32,
     address: ByteOffset,
     size: u8,
     imm: i32,
 ) -> Result<Option<usize>, Unnamed>
     requires { Symbolic code.now functions.now address.0 }
-    ensures { named_of result ≡ by_symbol (targets code.now functions.now) (kind_of kind) (or_none home) address.0 size imm }
+    ensures { named_of result ≡ by_symbol (targets code.now functions.now) (kind_in kind) (or_none home) address.0 size imm }
 {
     if home == NONE {
-        if kind == TEXT {
-            return Err(Unnamed::UnknownForm);
+        return match kind {
+            SymbolKind::Text => Err(Unnamed::UnknownForm),
+            SymbolKind::Other | SymbolKind::Section => Ok(None),
+        };
+    }
+    match kind {
+        SymbolKind::Text => {
+            let target = address.0;
+            by_address(functions, home, target as i64)
         }
-        return Ok(None);
+        SymbolKind::Other if is_code(code, home) => Err(Unnamed::UnknownForm),
+        SymbolKind::Section if is_code(code, home) => {
+            by_section(functions, home, address, size, imm)
+        }
+        SymbolKind::Other | SymbolKind::Section => Ok(None),
     }
-    if kind == TEXT {
-        let target = address.0;
-        return by_address(functions, home, target as i64);
-    }
-    if !is_code(code, home) {
-        return Ok(None);
-    }
-    if kind == OTHER {
-        return Err(Unnamed::UnknownForm);
-    }
-    by_section(functions, home, address, size, imm)
 }
 
 // A call without a relocation: its own section, from its own place.
@@ -136,7 +136,7 @@ pub fn by_row(names: Names, k: usize, imm: i32) -> Result<Option<usize>, Unnamed
     by_symbol(
         names.code,
         names.functions,
-        symbol_kind(names.symbols, s),
+        SymbolKind::from(symbol_kind(names.symbols, s)),
         symbol_section(names.symbols, s),
         symbol_address(names.symbols, s),
         relocation_size(names.relocations, k),
@@ -166,7 +166,7 @@ pub fn by_relocation(
     }
 }
 
-// None: the slot is copied as it stands.
+// None: the slot is copied as it stands. The two flags are two facts of one slot, as `decide` of the definitions takes them.
 pub fn decide(
     is_call: bool,
     is_wide: bool,

@@ -1,4 +1,4 @@
-// The fields of row k, least byte first.
+// The fields of row k, least byte first. A reader for each by its name: one over sizes and places would be no shorter, as each field has its clause.
 ghost use Rattle.std.specs.Prelude.{◌≡◌, ◌+◌, ◌*◌, ◌≤◌, length};
 ghost use Rattle.rules.specs.declared.Table.TheVariants.{Code, Symbols, Functions, Relocations, Maps, FuncInfo, LineInfo};
 ghost use Rattle.rules.specs.Bytes.{little};

@@ -12,8 +12,8 @@ use crate::fields::{
     relocation_section, symbol_index,
 };
 use crate::order::{is_before, same_place};
-use rules::limits::{CODE_SIZE, FUNCTION_SIZE, MAP_SIZE, NONE, RELOCATION_SIZE, SYMBOL_SIZE};
 use rules::ByteOffset;
+use rules::limits::{CODE_SIZE, FUNCTION_SIZE, MAP_SIZE, NONE, RELOCATION_SIZE, SYMBOL_SIZE};
 
 fn is_function(t: &[u8], k: usize, home: u32, address: i64) -> bool
     requires { row_size Functions * k + row_size Functions ≤ length t.now }
@@ -95,7 +95,7 @@ pub fn find_relocation(t: &[u8], home: u32, offset: ByteOffset) -> Option<usize>
     (0..t.len() / RELOCATION_SIZE).find(|k| is_relocation(t, *k, home, offset))
 }
 
-// How many relocations stand before (home, offset), by halving.
+// How many relocations stand before (home, offset), by halving: rows are bytes and no slice of rows, so there is no partition_point to call.
 pub fn relocations_before(t: &[u8], home: u32, offset: ByteOffset) -> usize
     requires { Sound Relocations t.now }
     ensures { (result ≡ relocations_before t.now home offset.0) × (result ≤ whole_rows Relocations t.now) }

@@ -1,4 +1,4 @@
-// Two numbers of a row as a pair: a section, and an address or an offset in it.
+// Two numbers of a row as a pair: a section, and an address or an offset in it. The order of a tuple branches on its first; these have no branch.
 ghost use Rattle.std.specs.Prelude.{◌≡◌, ◌&&◌, eqb};
 ghost use Rattle.rules.specs.Rows.{below};
 

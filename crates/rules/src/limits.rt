@@ -50,15 +50,8 @@ pub const MOST_SECTION: u32 = 65535;
 
 pub const MOST_ADDRESS: u64 = 0xFFFF_FFFF_FFFF;
 
-// No section, or no symbol.
+// No section, or no symbol. A number, as a row's bytes have it and specs/Rows names it: a row reader gives what stands there.
 pub const NONE: u32 = 0xFFFF_FFFF;
 
-// The kinds of a symbol.
-pub const OTHER: u8 = 0;
-
-pub const TEXT: u8 = 1;
-
-pub const SECTION: u8 = 2;
-
-// A map with data.
+// A map with data: a number of the row, like NONE.
 pub const HAS_DATA: u8 = 1;

@@ -8,16 +8,10 @@ use Rattle.rules.specs.Bytes.{little}
 use Rattle.rules.specs.Tables.{object_of}
 use Rattle.rules.specs.Rows.{whole_rows, Offered, tables_of, summed, function_slots}
 use Rattle.rules.specs.Lookups.{Checked}
-use Rattle.insn.specs.Kinds.{codes}
 
 -- the object of the tables offered
 abbrev pub object_in : Offered → Object
 object_in o = object_of (tables_of little o)
-
--- the table of kinds, and checked tables
-pub record Source (kinds : List ℕ) (o : Offered) : Type 0 where
-  pub table : kinds ≡ codes
-  pub tables : Checked o
 
 -- a slot of a row whose first slot in table 6 is `first`
 pub record Slotted (o : Offered) (row first slot : ℕ) : Type 0 where

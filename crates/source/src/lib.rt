@@ -7,14 +7,13 @@ ghost use Rattle.rules.specs.Answers.{refusal_in};
 ghost use Rattle.rules.specs.Lent.{lent_code};
 ghost use Rattle.rules.specs.Object as object;
 ghost use Rattle.rules.specs.Rows.{whole_rows, summed, function_slots};
-ghost use Rattle.rules.specs.Lookups.{Sound};
+ghost use Rattle.rules.specs.Lookups.{Sound, Checked};
 ghost use Rattle.rules.specs.Walk as walks;
 ghost use Rattle.rules.specs.Walk.{in_source};
 ghost use Rattle.walk.specs.Moves.{move_of};
-ghost use Rattle.source.specs.Moves.{object_in, Source, Slotted, slots_in, called_by};
+ghost use Rattle.source.specs.Moves.{object_in, Slotted, slots_in, called_by};
 ghost use Rattle.source.specs.Steps.{walk_refusal, SourceWalked};
 
-use insn::kinds::table;
 use insn::{after, place, slot_at};
 use resolve::resolve;
 use rows::fields::{function_offset, function_section, function_slots};
@@ -35,7 +34,7 @@ pub fn slots_of(functions: &[u8], row: usize) -> u32
     }
 }
 
-// Where a row's slots begin in table 6.
+// Where a row's slots begin in table 6: of the three sums of merge's part_of the one that a walk needs, at every step.
 pub fn first_slot(functions: &[u8], row: usize) -> Slot
     requires { Sound Functions functions.now × (row < whole_rows Functions functions.now) }
     ensures { result.0 ≡ summed (function_slots functions.now) 0 row }
@@ -71,13 +70,12 @@ pub fn callee(
     }
 }
 
-// The functions of checked tables, with the table of kinds.
+// The functions of checked tables.
 #[derive(Clone, Copy)]
 pub struct SourceGround<'a> {
-    pub kinds: &'a [u8; 256],
     pub names: Names<'a>,
     pub instructions: &'a [u8],
-    ghost source: { Source kinds.now (lent_code names instructions.now) },
+    ghost source: { Checked (lent_code names instructions.now) },
 }
 
 impl SourceGround<'_> {
@@ -87,7 +85,7 @@ impl SourceGround<'_> {
         ensures { move_of (Some result)
             ≡ in_source (object_in (lent_code self.now.names self.now.instructions.now)) (walks.place row (pos slot.0)) }
     {
-        match leads_at(self.kinds, self.instructions, after(first, slot), slot) {
+        match leads_at(self.instructions, after(first, slot), slot) {
             Move::Goes(next) => Move::Goes(Place { row, slot: next }),
             Move::Chooses(on_yes, on_no) => {
                 Move::Chooses(Place { row, slot: on_yes }, Place { row, slot: on_no })
@@ -143,7 +141,6 @@ pub fn walk_source(
 {
     check_source(names, instructions, root)?;
     let ground = SourceGround {
-        kinds: &table(),
         names,
         instructions,
     };

@@ -1,5 +1,5 @@
 pub mod Bounds
 pub mod Tests
-pub mod Doubles
+pub mod Sums
 pub mod Rows
 pub mod Refusals

@@ -1,20 +1,21 @@
 -- What the scan of a table says of its first broken row, and the cases of a table that the code takes together.
 -- Assumes nothing.
-use mathlib.Core.Path.{◌≡◌, refl, sym, ap, ◌∙◌, subst}
-use mathlib.Core.Bool.{Bool, true, not}
+use mathlib.Core.Path.{◌≡◌, refl, ap, ◌∙◌, subst}
+use mathlib.Core.Bool.{Bool, true, false, not}
 use mathlib.Core.Option.{Option, none, some}
 use mathlib.Core.List.{List, [], ◌∷◌}
 use Prim.Native.Nat.{ℕ, suc, ◌+◌, ◌*◌, ◌/◌, ◌%◌, ◌≤◌, ◌<◌}
 use native.Mathlib.Omega.{arith}
 use native.Mathlib.Nat.{mul-suc, mul-le-mul_left, mul-div-le}
-use borrow.Author.Tests.{eq-eqb, ne_eqb}
+use lib.Dec.{eqb}
 use lib.ListN.{length}
 use denote.Enum.Declared.{tag_of}
 use types.Run.{OneOf, miss}
 use Rattle.rules.specs.declared.Table.{Table}
 use Rattle.rules.specs.declared.Table.TheVariants.{Code, Symbols, Functions, Relocations, Maps, Instructions, FuncInfo, LineInfo}
-use Rattle.std.specs.Prelude.{Some, None}
-use Rattle.rules.specs.Rows.{row_size, whole_rows, is_partial, is_good, first_from, or_partial, first_broken, count_of}
+use Rattle.std.specs.Option.{option_or}
+use Rattle.std.specs.Bool.{then_some}
+use Rattle.rules.specs.Rows.{row_size, is_good, first_from, or_partial, first_broken, count_of}
 use Rattle.rules.specs.Lookups.{found_of}
 use Rattle.rules.specs.contracts.Table.{the_type}
 
@@ -28,24 +29,18 @@ same_row n k e h = subst (λ x. row_size x * k + row_size x ≤ n) e h
 abbrev pub is_bad : Table → List ℕ → ℕ → Bool
 is_bad table t k = not (is_good table t k)
 
--- the scan's answer, by its own size of a row
-module _ (table : Table) (t : List ℕ) (size : ℕ) (is : size ≡ row_size table) where
-  scanned : (o : Option ℕ) → first_from (is_bad table t) 0 (length t / size) ≡ o
-      → found_of (first_broken table t) ≡ found_of (or_partial o (is_partial table t) (whole_rows table t))
-  unfolding first_broken
-  scanned o e = ap (λ x. found_of (or_partial x (is_partial table t) (whole_rows table t))) (ap (λ s. first_from (is_bad table t) 0 (length t / s)) (sym is) ∙ e)
+-- what was found among the whole rows, else a partial row: the first broken row. By the scan's own size of a row
+or_then : (o : Option ℕ) (p : Bool) (n : ℕ) → option_or (found_of o) (then_some p n) ≡ found_of (or_partial o p n)
+or_then (some k) p n = refl
+or_then none true n = refl
+or_then none false n = refl
 
-  pub broken_at : (k : ℕ) → first_from (is_bad table t) 0 (length t / size) ≡ some k → Some k ≡ found_of (first_broken table t)
-  broken_at k e = sym (scanned (some k) e)
-
-  pub whole_good : first_from (is_bad table t) 0 (length t / size) ≡ none → length t % size ≡ 0 → None ≡ found_of (first_broken table t)
-  whole_good e z =
-      sym (scanned none e ∙ ap (λ b. found_of (or_partial none (not b) (whole_rows table t))) (eq-eqb (length t % row_size table) 0 (ap (λ s. length t % s) (sym is) ∙ z)))
-
-  pub partial_last : first_from (is_bad table t) 0 (length t / size) ≡ none → (length t % size ≡ 0 → ⊥) → Some (length t / size) ≡ found_of (first_broken table t)
-  partial_last e z =
-      ap (λ s. Some (length t / s)) is
-      ∙ sym (scanned none e ∙ ap (λ b. found_of (or_partial none (not b) (whole_rows table t))) (ne_eqb (length t % row_size table) 0 (λ y. z (ap (λ s. length t % s) is ∙ y))))
+pub or_last : (table : Table) (t : List ℕ) (size : ℕ) → size ≡ row_size table
+    → option_or (found_of (first_from (is_bad table t) 0 (length t / size))) (then_some (not (eqb (length t % size) 0)) (length t / size)) ≡ found_of (first_broken table t)
+unfolding first_broken
+or_last table t size is =
+    or_then (first_from (is_bad table t) 0 (length t / size)) (not (eqb (length t % size) 0)) (length t / size)
+    ∙ ap (λ s. found_of (or_partial (first_from (is_bad table t) 0 (length t / s)) (not (eqb (length t % s) 0)) (length t / s))) is
 
 -- the tables whose rows are not judged, and those of which nothing is added up
 pub all_good : (table : Table) → OneOf (5 ∷ 6 ∷ 7 ∷ []) (tag_of the_type table) → (t : List ℕ) (k : ℕ) → true ≡ is_good table t k

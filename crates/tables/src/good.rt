@@ -11,9 +11,9 @@ use rows::fields::{
 use rows::order::is_before;
 use rules::limits::{
     HAS_DATA, MAP_SIZE, MOST_ADDRESS, MOST_FUNCTION_SLOTS, MOST_SECTION, NONE, RELOCATION_SIZE,
-    SECTION, SYMBOL_SIZE,
+    SYMBOL_SIZE,
 };
-use rules::{ByteOffset, Table};
+use rules::{ByteOffset, SymbolKind, Table};
 use wire::all_zero;
 
 fn is_section(s: u32) -> bool
@@ -34,22 +34,12 @@ fn is_address(a: ByteOffset) -> bool
     a.0 <= MOST_ADDRESS
 }
 
-// The row before, or row 0 again.
-fn previous(k: usize) -> usize
-    ensures { result ≡ k - 1 }
-{
-    if k == 0 {
-        return 0;
-    }
-    k - 1
-}
-
 fn code_good(t: &[u8], k: usize) -> bool
     requires { row_size Code * k + row_size Code ≤ length t.now }
     ensures { result ≡ is_good Code t.now k }
 {
     let section = code_section(t, k);
-    let last = code_section(t, previous(k));
+    let last = code_section(t, k.saturating_sub(1)); // or row 0 again
     is_section(section) & ((k == 0) | (last < section))
 }
 
@@ -58,11 +48,11 @@ fn symbol_good(t: &[u8], k: usize) -> bool
     ensures { result ≡ is_good Symbols t.now k }
 {
     let index = symbol_index(t, k);
-    let last = symbol_index(t, previous(k));
+    let last = symbol_index(t, k.saturating_sub(1));
     (index != NONE)
         & is_section_or_none(symbol_section(t, k))
         & is_address(symbol_address(t, k))
-        & (symbol_kind(t, k) <= SECTION)
+        & (symbol_kind(t, k) <= SymbolKind::Section as u8)
         & all_zero(t, SYMBOL_SIZE * k + 17, 7)
         & ((k == 0) | (last < index))
 }
@@ -75,7 +65,7 @@ fn function_good(t: &[u8], k: usize) -> bool
     let slots = function_slots(t, k);
     let address = function_address(t, k);
     let offset = function_offset(t, k);
-    let last = previous(k);
+    let last = k.saturating_sub(1);
     is_section(section)
         & (1 <= slots.0)
         & (slots.0 <= MOST_FUNCTION_SLOTS)
@@ -97,7 +87,7 @@ fn relocation_good(t: &[u8], k: usize) -> bool
 {
     let section = relocation_section(t, k);
     let offset = relocation_offset(t, k);
-    let last = previous(k);
+    let last = k.saturating_sub(1);
     is_section(section)
         & (relocation_symbol(t, k) != NONE)
         & is_address(offset)
@@ -124,14 +114,7 @@ fn is_doubled(t: &[u8], k: usize) -> bool
     requires { row_size Maps * k + row_size Maps ≤ length t.now }
     ensures { result ≡ any_from (λ j. same_map t.now j k) 0 k }
 {
-    let mut j = 0;
-    while j < k {
-        if same_map(t, j, k) {
-            return true;
-        }
-        j += 1;
-    }
-    false
+    (0..k).any(|j| same_map(t, j, k))
 }
 
 fn map_good(t: &[u8], k: usize) -> bool

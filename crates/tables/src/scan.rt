@@ -11,15 +11,7 @@ pub fn first_broken(table: Table, t: &[u8]) -> Option<usize>
 {
     let size = table.row_size();
     let n = t.len() / size;
-    let mut k = 0;
-    while k < n {
-        if !is_good(table, t, k) {
-            return Some(k);
-        }
-        k += 1;
-    }
-    if t.len() % size == 0 {
-        return None;
-    }
-    Some(n)
+    (0..n)
+        .find(|k| !is_good(table, t, *k))
+        .or((t.len() % size != 0).then_some(n))
 }

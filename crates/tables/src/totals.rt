@@ -11,8 +11,7 @@ fn slots_of(functions: &[u8], k: usize) -> u32
     requires { row_size Functions * k + row_size Functions ≤ length functions.now }
     ensures { result ≡ function_slots functions.now k }
 {
-    let slots = function_slots(functions, k);
-    slots.0
+    function_slots(functions, k).0
 }
 
 fn count_of(table: Table, functions: &[u8], k: usize) -> u32
@@ -27,23 +26,12 @@ fn count_of(table: Table, functions: &[u8], k: usize) -> u32
     }
 }
 
-fn wide(x: u32) -> u64
-    ensures { (result ≡ x) × (result < 0x1_0000_0000) }
-{
-    x as u64
-}
-
 // As many counts as rows, each below 2^32.
 pub fn total(table: Table, functions: &[u8]) -> u64
     requires { whole_rows Functions functions.now ≤ most_rows Functions }
     ensures { (result ≡ total table functions.now) × (result ≤ 0x1_0000_0000 * most_rows Functions) }
 {
-    let n = functions.len() / FUNCTION_SIZE;
-    let mut sum = 0;
-    let mut k = 0;
-    while k < n {
-        sum += wide(count_of(table, functions, k));
-        k += 1;
-    }
-    sum
+    (0..functions.len() / FUNCTION_SIZE)
+        .map(|k| u64::from(count_of(table, functions, k)))
+        .sum()
 }

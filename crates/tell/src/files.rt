@@ -26,7 +26,7 @@ pub const TABLES: usize = 8;
 // Table 6 by its place.
 const INSTRUCTIONS: usize = 5;
 
-// How many tables stand before one.
+// How many tables stand before one: by place stand a file's lengths, and a table begins where those before it end.
 pub fn place_of(table: Table) -> usize
     ensures { (result ≡ place_of table) × (result < 8) }
 {

@@ -47,6 +47,7 @@ fn number_at(numbers: &[u32], j: usize) -> u32
     numbers.get(j).copied().unwrap_or(0)
 }
 
+// By hand, for the reason at `push_number`.
 fn hex(d: u8) -> u8
     requires { d < 16 }
     ensures { result ≡ hex_of d }

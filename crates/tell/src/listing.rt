@@ -18,7 +18,8 @@ const RECORD_SLOT: usize = 0;
 
 const PIECE_START: usize = 4;
 
-// The last of the records from `from` to `end`, of `size` bytes each, that stands at or before a slot: its own is at `key`.
+// The last of the records from `from` to `end`, of `size` bytes each, that stands at or before a slot: its own is at `key`. For
+// pieces and line records alike, as the definition is.
 #[tactic(auto, unfolding(crate::specs::Listing::last_at))]
 pub fn last_at(
     records: &[u8],

@@ -55,7 +55,7 @@ pub const FILE: usize = TABLE_LENGTHS
     + FUNC_INFO
     + LINE_INFO;
 
-// What a tables file may need of each.
+// What a tables file may need of each, by the tables' places, as a file has its lengths.
 pub const ROOM: [u32; 8] = [
     CODE as u32,
     SYMBOLS as u32,

@@ -34,7 +34,7 @@ impl From<Result<Places, Refusal>> for Told {
     }
 }
 
-// The text's line that says why: numbers 1 to 14, then 32 to 44.
+// The text's line that says why: numbers 1 to 14, then 32 to 44. A sum and no table, since `answer` is given any number.
 fn reason_line(number: u32) -> usize
     ensures { result ≡ reason_line number }
 {
@@ -42,7 +42,7 @@ fn reason_line(number: u32) -> usize
     if n > 31 { n - 17 } else { n }
 }
 
-// By that line, the one that names the places, but for a table or a run.
+// By that line, the one that names the places, but for a table or a run: the definition's own list (specs/Words, place_lines).
 const PLACE_LINES: [usize; 28] = [
     END,
     END,

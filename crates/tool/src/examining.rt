@@ -20,7 +20,7 @@ struct Missing {
     why: Unread,
 }
 
-// What is shown, as the lengths cut it.
+// What is shown, as the lengths cut it: they stand in a file that anybody may have made, so each is at most its buffer's.
 fn shown<'a>(
     lengths: &[u8; IMAGE_LENGTHS],
     image: &'a [u8],

@@ -1,4 +1,5 @@
-// The root is linked; the image and, if asked, the list of its pieces are written, and the image is listed.
+// The root is linked; the image and, if asked (`wanted`: there is a fifth argument, or there is none), the list of its pieces are written, and
+// the image is listed.
 ghost use Rattle.std.specs.Prelude.{◌*◌, ◌≤◌, length};
 ghost use Rattle.clerk.specs.Counts.{IsPrefixLen};
 ghost use Rattle.tell.specs.Room.{own_most};

@@ -41,7 +41,7 @@ chosen e f = cc
 pub entered : {a b c d : ℤ} → a ≡ b → c ≡ d → ◌≡◌ {A = math.Option (Move ℤ)} (some (enters a c)) (some (enters b d))
 entered e f = cc
 
-module _ {kinds image : List ℕ} {slots : ℕ} (g : Ground kinds image slots) where
+module _ {image : List ℕ} {slots : ℕ} (g : Ground image slots) where
   image_length : length (image_in image slots) ≡ slots
   image_length =
       decoded_length little (take (8 * slots) image) ∙ rw (length-take-le (8 * slots) image g.inside) (omega arith)

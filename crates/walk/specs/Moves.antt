@@ -6,7 +6,6 @@ use Rattle.std.proofs.Math.Option.{Option, none, some}
 use Rattle.rules.specs.Object.{Insn}
 use Rattle.rules.specs.Bytes.{little, slot_size, decoded}
 use Rattle.rules.specs.Walk.{Move, goes, chooses, enters, returns, stuck, leads}
-use Rattle.insn.specs.Kinds.{codes}
 use Rattle.walk.specs.declared.Move as found
 use Rattle.walk.specs.declared.Move.TheVariants.{Goes, Chooses, Enters, Returns, Stuck}
 
@@ -23,9 +22,8 @@ module _ {Place : Type 0} where
   move_of prelude.None = none
   move_of (prelude.Some move) = some (moved move)
 
--- the table of kinds, and an image of so many slots at the start of a buffer
-pub record Ground (kinds image : List ℕ) (slots : ℕ) : Type 0 where
-  pub table : kinds ≡ codes
+-- an image of so many slots at the start of a buffer
+pub record Ground (image : List ℕ) (slots : ℕ) : Type 0 where
   pub inside : slot_size * slots ≤ length image
 
 abbrev pub image_in : List ℕ → ℕ → List Insn

@@ -8,11 +8,10 @@ ghost use Rattle.rules.specs.Tables.{is_some};
 ghost use Rattle.std.proofs.Math.Option as math;
 ghost use Rattle.rules.specs.Walk as walks;
 ghost use Rattle.rules.specs.Walk.{in_image, within};
-ghost use Rattle.insn.specs.Kinds.{codes};
 ghost use Rattle.walk.specs.Moves.{move_of, Ground, image_in, leads_in};
 ghost use Rattle.walk.specs.Steps.{arrived_at, frameless_at, Fitting, SteppedOver, RanOver, ImageWalked};
 
-use insn::kinds::{kind_of, table};
+use insn::kinds::kind;
 use insn::{immediate, insn_is_call, offset, opcode, slot_at};
 use rules::limits::{INSTRUCTION_SIZE, MOST_IMAGE_SLOTS};
 use rules::{Kind, Slot};
@@ -68,7 +67,7 @@ pub trait Ground {
         ensures { result ≡ is_some (sight self.now at) };
 }
 
-fn arrive<G: Ground>(ground: &G, at: G::Place, depth: usize, taken: usize) -> Stand<G::Place>
+pub fn arrive<G: Ground>(ground: &G, at: G::Place, depth: usize, taken: usize) -> Stand<G::Place>
     ensures { result ≡ arrived_at (G.sight ground.now) at depth taken }
 {
     if ground.has(at) {
@@ -79,7 +78,7 @@ fn arrive<G: Ground>(ground: &G, at: G::Place, depth: usize, taken: usize) -> St
 }
 
 // A call for which there is no frame: it may lead outside.
-fn frameless<G: Ground>(ground: &G, first: G::Place) -> Stand<G::Place>
+pub fn frameless<G: Ground>(ground: &G, first: G::Place) -> Stand<G::Place>
     ensures { result ≡ frameless_at (G.sight ground.now) first }
 {
     if ground.has(first) {
@@ -181,11 +180,11 @@ pub fn slot_in(at: i64, slots: u32) -> Option<usize>
 }
 
 // The slot that lies at `here` of some code, as slot `slot` of its function or image; a call as an image has it.
-pub fn leads_at(kinds: &[u8; 256], code: &[u8], here: Slot, slot: Slot) -> Move<i64>
-    requires { (kinds.now ≡ codes) × (slot_size * here.0 + slot_size ≤ length code.now) }
+pub fn leads_at(code: &[u8], here: Slot, slot: Slot) -> Move<i64>
+    requires { slot_size * here.0 + slot_size ≤ length code.now }
     ensures { move_of (Some result) ≡ leads_in (slot_in little code.now here.0) slot.0 }
 {
-    match kind_of(kinds, opcode(code, here)) {
+    match kind(opcode(code, here)) {
         Kind::Plain => Move::Goes(ahead(slot, 1, 0)),
         Kind::WideLoad => Move::Goes(ahead(slot, 2, 0)),
         Kind::JumpByOffset => Move::Goes(ahead(slot, 1, jump(code, here))),
@@ -208,13 +207,12 @@ pub fn leads_at(kinds: &[u8; 256], code: &[u8], here: Slot, slot: Slot) -> Move<
     }
 }
 
-// An image of so many slots at the start of a buffer, with the table of kinds.
+// An image of so many slots at the start of a buffer.
 #[derive(Clone, Copy)]
 pub struct ImageGround<'a> {
-    pub kinds: &'a [u8; 256],
     pub image: &'a [u8],
     pub slots: u32,
-    ghost ground: { Ground kinds.now image.now slots },
+    ghost ground: { Ground image.now slots },
 }
 
 impl Ground for ImageGround<'_> {
@@ -226,7 +224,7 @@ impl Ground for ImageGround<'_> {
 
     fn look(&self, at: i64) -> Option<Move<i64>> {
         let slot = slot_at(slot_in(at, self.slots)? as u32);
-        Some(leads_at(self.kinds, self.image, slot, slot))
+        Some(leads_at(self.image, slot, slot))
     }
 
     fn has(&self, at: i64) -> bool {
@@ -252,7 +250,6 @@ pub fn walk_image(
         return Err(TooLong);
     }
     let ground = ImageGround {
-        kinds: &table(),
         image,
         slots: slots as u32,
     };

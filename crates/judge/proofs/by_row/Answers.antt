@@ -5,7 +5,7 @@ use native.Mathlib.Omega.{arith}
 use Rattle.rules.specs.Rows.{kind_in, kind_of, symbol_kind}
 use Rattle.rules.specs.Lookups.{is_code_section}
 use Rattle.rules.proofs.Passed.{good_symbol}
-use Rattle.judge.proofs.Laws.{is_text, is_not_text, text_says, row_says}
+use Rattle.judge.proofs.Laws.{is_text, text_says}
 use Rattle.judge.proofs.by_row.Goals.{After-eq}
 use Rattle.judge.proofs.by_row.Goals as goal
 
@@ -26,10 +26,3 @@ returns-then-eq c =
 pub by_map-requires : goal.by_map-requires
 by_map-requires c =
     (c.requires.0.maps_sound, omega (arith, c.symbol_address-address.ensures, (good_symbol c.args.names.symbols.now c.requires.0.symbols_sound c.args.s c.requires.1).address))
-
-pub returns : goal.returns
-returns c =
-    let a = c.args in
-    let n = (goal.at.returns c).After-eq in
-    row_says a.names.code.now a.names.symbols.now a.maps.now a.s a.symbol a.site _ c.symbol_section-home.ensures c.if-home.false c.if-site.false (no_code n)
-    (is_not_text (symbol_kind a.names.symbols.now a.s) c.from.result (kind_is n) (sym c.eq.ensures ∙ c.if-eq.false)) _ c.symbol_address-address.ensures _ c.by_map.ensures

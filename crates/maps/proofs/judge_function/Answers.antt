@@ -4,14 +4,11 @@ use Rattle.std.specs.Prelude.{Err}
 use Rattle.std.proofs.lemmas.Result.{err_from_is_err_and}
 use Rattle.rules.specs.Answers.{refusal_in}
 use Rattle.maps.specs.Passes.{verdict_refusal}
-use Rattle.maps.proofs.Passes.{judge_start, judge_end, asked_at, judge_refused, judge_next}
+use Rattle.maps.proofs.Passes.{judge_start, judge_end, judge_refused, judge_next}
 use Rattle.maps.proofs.judge_function.Goals as goal
 
 pub loop-k-init : goal.loop-k-init
 loop-k-init c = rw c.into_iter-k-iterator.ensures.into_iter_gives (judge_start c.requires c.relocations_of-k-items.ensures)
-
-pub judge-requires : goal.judge-requires
-judge-requires c = asked_at c.requires c.loop-k.invariant c.in-Some.k c.next.new.self.start c.next.new.self.end c.in-Some.ensures.steps
 
 pub loop-k-preserved : goal.loop-k-preserved
 loop-k-preserved c =

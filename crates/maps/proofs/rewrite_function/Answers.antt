@@ -1,13 +1,9 @@
 -- The invariant: rewriting the relocations that are left gives the function's slots and count.
-use Rattle.maps.proofs.Rewriting.{rewrite_start, rewrite_end, rewrite_asked, rewrite_next}
+use Rattle.maps.proofs.Rewriting.{rewrite_start, rewrite_end, rewrite_next}
 use Rattle.maps.proofs.rewrite_function.Goals as goal
 
 pub loop-k-init : goal.loop-k-init
 loop-k-init c = rw c.into_iter-k-iterator.ensures.into_iter_gives (rewrite_start c.requires c.relocations_of-k-items.ensures)
-
-pub rewrite_one-count-requires : goal.rewrite_one-count-requires
-rewrite_one-count-requires c =
-    rewrite_asked c.requires c.loop-k.invariant c.in-Some.k c.next.new.self.start c.next.new.self.end c.in-Some.ensures.steps
 
 pub loop-k-preserved : goal.loop-k-preserved
 loop-k-preserved c =

@@ -1,7 +1,6 @@
 -- The size says whether the immediate counts slots or bytes.
 use mathlib.Core.Path.{refl, sym, ◌∙◌}
 use mathlib.Core.List.{[]}
-use borrow.Author.Tests.{eq-eqb, ne_eqb}
 use Rattle.resolve.proofs.Targets.{passed_on, slots_from, bytes_from, at_is}
 use Rattle.resolve.proofs.by_section.Goals as goal
 

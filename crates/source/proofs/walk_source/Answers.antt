@@ -4,4 +4,4 @@ use Rattle.source.proofs.Entry.{checks}
 use Rattle.source.proofs.walk_source.Goals as goal
 
 pub invariant_of-ground : goal.invariant_of-ground
-invariant_of-ground c = record { source = record { table = c.table.ensures; tables = checks _ c.args.root (sym c.in_ok-check_source.ensures) } }
+invariant_of-ground c = record { source = checks _ c.args.root (sym c.in_ok-check_source.ensures) }

@@ -46,7 +46,7 @@ after-requires c =
 
 pub leads_at-requires : goal.leads_at-requires
 leads_at-requires c =
-    (c.args.self.now.source.table, omega (arith, end_inside (resolves c.requires), c.requires.slot_inside, c.after.ensures))
+    omega (arith, end_inside (resolves c.requires), c.requires.slot_inside, c.after.ensures)
 
 -- a place as the word holds it
 held : (row : ℕ) {z : ℤ} → SFits w64 z → place row (to_z w64 (of_z w64 z)) ≡ place row z

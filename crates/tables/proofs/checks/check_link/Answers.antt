@@ -1,52 +1,153 @@
--- No table has too many rows; then each table is judged, the last first, and the first refusal stands.
-use mathlib.Core.Path.{ap, ◌∙◌}
+-- Each table in document 01's order: it refuses, or what is left is said by those after it.
+use mathlib.Core.Path.{◌≡◌, sym, ap, ◌∙◌}
+use mathlib.Core.Option.{Option}
+use mathlib.Core.List.{[], ◌∷◌}
 use Rattle.std.specs.Prelude.{Err}
 use Rattle.std.proofs.lemmas.Result.{err_from_is_err_and}
-use Rattle.rules.specs.declared.Table.TheVariants.{Code, Symbols, Functions, Relocations, Instructions, FuncInfo, LineInfo}
-use Rattle.rules.specs.Answers.{refusal_in}
-use Rattle.rules.specs.Rows.{Offered, link_offer, link_tables, link_refusal, broken, broken_in, no_root, or_else}
-use Rattle.tables.proofs.Refusals.{AllFew, ManyIs, many_end, many_next, few_passed, many_refused, stands, refused_on, broken_end, broken_next, then_broken}
-use Rattle.tables.proofs.checks.check_link.Goals.{After-or_too_many-few-7, In_ok-few}
+use Rattle.rules.specs.declared.Table.TheVariants.{Code, FuncInfo, Functions, Instructions, LineInfo, Relocations, Symbols}
+use Rattle.rules.specs.Answers.{Reply}
+use Rattle.rules.specs.Lent.{lent}
+use Rattle.rules.specs.Rows.{Offered, link_tables, link_refusal, broken_in, no_root}
+use Rattle.tables.proofs.Refusals.{many_each, broken_each, all_from, passed_on, handed_on}
+use Rattle.tables.proofs.checks.check_link.Goals.{After-few, In_ok-few, In_ok-few-2, In_ok-few-3, In_ok-few-4, In_ok-few-5, In_ok-few-6, In_ok-few-7, In_ok-unbroken, In_ok-unbroken-2, In_ok-unbroken-3, In_ok-unbroken-4, In_ok-right_total, In_ok-right_total-2, In_ok-right_total-3}
 use Rattle.tables.proofs.checks.check_link.Goals as goal
 
-abbrev offered : After-or_too_many-few-7 → Offered
-offered c =
-    let a = c.args in
-    link_offer a.names.code.now a.names.symbols.now a.names.functions.now a.names.relocations.now a.program.instructions.now a.program.func_info.now a.program.line_info.now
+abbrev o : After-few → Offered
+o c = lent c.args.names c.args.program
 
-first-refusal : (c : After-or_too_many-few-7) → ManyIs (offered c) link_tables (refusal_in c.or_too_many-few-7.result)
-first-refusal c =
-    many_next Code c.or_too_many-few-7.ensures
-    (many_next Symbols c.or_too_many-few-6.ensures
-    (many_next Functions c.or_too_many-few-5.ensures
-    (many_next Relocations c.or_too_many-few-4.ensures
-    (many_next Instructions c.or_too_many-few-3.ensures
-    (many_next FuncInfo c.or_too_many-few-2.ensures
-    (many_next LineInfo c.or_too_many-few.ensures
-    (many_end (offered c))))))))
+abbrev Left : (c : After-few) → Option Reply → Type 0
+Left c left = link_refusal (o c) c.args.root ≡ left
 
-few : (c : In_ok-few) → AllFew (offered (goal.at.In_ok-few c).After-or_too_many-few-7) link_tables
-few c = few_passed (first-refusal (goal.at.In_ok-few c).After-or_too_many-few-7) (ap refusal_in c.in_ok-few.was)
+left0 : (c : After-few) → Left c (many_each (o c) (Code ∷ Symbols ∷ Functions ∷ Relocations ∷ Instructions ∷ FuncInfo ∷ LineInfo ∷ []) (broken_each (o c) link_tables (no_root (o c) c.args.root)))
+unfolding link_refusal
+left0 c = all_from (o c) link_tables (no_root (o c) c.args.root)
+
+left1 : (c : In_ok-few) → let b : After-few = (goal.at.In_ok-few c).After-few in Left b (many_each (o b) (Symbols ∷ Functions ∷ Relocations ∷ Instructions ∷ FuncInfo ∷ LineInfo ∷ []) (broken_each (o b) link_tables (no_root (o b) b.args.root)))
+left1 c = passed_on (left0 ((goal.at.In_ok-few c).After-few)) c.in_ok-few.ensures
+
+left2 : (c : In_ok-few-2) → let b : After-few = (goal.at.In_ok-few-2 c).After-few in Left b (many_each (o b) (Functions ∷ Relocations ∷ Instructions ∷ FuncInfo ∷ LineInfo ∷ []) (broken_each (o b) link_tables (no_root (o b) b.args.root)))
+left2 c = passed_on (left1 ((goal.at.In_ok-few-2 c).In_ok-few)) c.in_ok-few-2.ensures
+
+left3 : (c : In_ok-few-3) → let b : After-few = (goal.at.In_ok-few-3 c).After-few in Left b (many_each (o b) (Relocations ∷ Instructions ∷ FuncInfo ∷ LineInfo ∷ []) (broken_each (o b) link_tables (no_root (o b) b.args.root)))
+left3 c = passed_on (left2 ((goal.at.In_ok-few-3 c).In_ok-few-2)) c.in_ok-few-3.ensures
+
+left4 : (c : In_ok-few-4) → let b : After-few = (goal.at.In_ok-few-4 c).After-few in Left b (many_each (o b) (Instructions ∷ FuncInfo ∷ LineInfo ∷ []) (broken_each (o b) link_tables (no_root (o b) b.args.root)))
+left4 c = passed_on (left3 ((goal.at.In_ok-few-4 c).In_ok-few-3)) c.in_ok-few-4.ensures
+
+left5 : (c : In_ok-few-5) → let b : After-few = (goal.at.In_ok-few-5 c).After-few in Left b (many_each (o b) (FuncInfo ∷ LineInfo ∷ []) (broken_each (o b) link_tables (no_root (o b) b.args.root)))
+left5 c = passed_on (left4 ((goal.at.In_ok-few-5 c).In_ok-few-4)) c.in_ok-few-5.ensures
+
+left6 : (c : In_ok-few-6) → let b : After-few = (goal.at.In_ok-few-6 c).After-few in Left b (many_each (o b) (LineInfo ∷ []) (broken_each (o b) link_tables (no_root (o b) b.args.root)))
+left6 c = passed_on (left5 ((goal.at.In_ok-few-6 c).In_ok-few-5)) c.in_ok-few-6.ensures
+
+left7 : (c : In_ok-few-7) → let b : After-few = (goal.at.In_ok-few-7 c).After-few in Left b (broken_each (o b) (Code ∷ Symbols ∷ Functions ∷ Relocations ∷ Instructions ∷ FuncInfo ∷ LineInfo ∷ []) (no_root (o b) b.args.root))
+left7 c = passed_on (left6 ((goal.at.In_ok-few-7 c).In_ok-few-6)) c.in_ok-few-7.ensures
+
+left8 : (c : In_ok-unbroken) → let b : After-few = (goal.at.In_ok-unbroken c).After-few in Left b (broken_each (o b) (Symbols ∷ Functions ∷ Relocations ∷ Instructions ∷ FuncInfo ∷ LineInfo ∷ []) (no_root (o b) b.args.root))
+unfolding broken_in
+left8 c = passed_on (left7 ((goal.at.In_ok-unbroken c).In_ok-few-7)) c.in_ok-unbroken.ensures
+
+left9 : (c : In_ok-unbroken-2) → let b : After-few = (goal.at.In_ok-unbroken-2 c).After-few in Left b (broken_each (o b) (Functions ∷ Relocations ∷ Instructions ∷ FuncInfo ∷ LineInfo ∷ []) (no_root (o b) b.args.root))
+unfolding broken_in
+left9 c = passed_on (left8 ((goal.at.In_ok-unbroken-2 c).In_ok-unbroken)) c.in_ok-unbroken-2.ensures
+
+left10 : (c : In_ok-unbroken-3) → let b : After-few = (goal.at.In_ok-unbroken-3 c).After-few in Left b (broken_each (o b) (Relocations ∷ Instructions ∷ FuncInfo ∷ LineInfo ∷ []) (no_root (o b) b.args.root))
+unfolding broken_in
+left10 c = passed_on (left9 ((goal.at.In_ok-unbroken-3 c).In_ok-unbroken-2)) c.in_ok-unbroken-3.ensures
+
+left11 : (c : In_ok-unbroken-4) → let b : After-few = (goal.at.In_ok-unbroken-4 c).After-few in Left b (broken_each (o b) (Instructions ∷ FuncInfo ∷ LineInfo ∷ []) (no_root (o b) b.args.root))
+unfolding broken_in
+left11 c = passed_on (left10 ((goal.at.In_ok-unbroken-4 c).In_ok-unbroken-3)) c.in_ok-unbroken-4.ensures
+
+left12 : (c : In_ok-right_total) → let b : After-few = (goal.at.In_ok-right_total c).After-few in Left b (broken_each (o b) (FuncInfo ∷ LineInfo ∷ []) (no_root (o b) b.args.root))
+unfolding broken_in
+left12 c = passed_on (left11 ((goal.at.In_ok-right_total c).In_ok-unbroken-4)) c.in_ok-right_total.ensures
+
+left13 : (c : In_ok-right_total-2) → let b : After-few = (goal.at.In_ok-right_total-2 c).After-few in Left b (broken_each (o b) (LineInfo ∷ []) (no_root (o b) b.args.root))
+unfolding broken_in
+left13 c = passed_on (left12 ((goal.at.In_ok-right_total-2 c).In_ok-right_total)) c.in_ok-right_total-2.ensures
+
+left14 : (c : In_ok-right_total-3) → let b : After-few = (goal.at.In_ok-right_total-3 c).After-few in Left b (broken_each (o b) ([]) (no_root (o b) b.args.root))
+unfolding broken_in
+left14 c = passed_on (left13 ((goal.at.In_ok-right_total-3 c).In_ok-right_total-2)) c.in_ok-right_total-3.ensures
 
 pub returns-in_err-few : goal.returns-in_err-few
-unfolding link_refusal
 returns-in_err-few c =
-    let o = offered (goal.at.returns-in_err-few c).After-or_too_many-few-7 in
-    let later = or_else (broken o link_tables) (no_root o c.args.root) in
     let p = err_from_is_err_and c.from_residual.result c.from_residual.ensures.1 in
-    refused_on c.or_too_many-few-7.result c.from_residual.result _ c.in_err-few.was (p.1 ∙ ap Err p.2)
-    ∙ many_refused (first-refusal (goal.at.returns-in_err-few c).After-or_too_many-few-7) later (stands c.or_too_many-few-7.result _ c.in_err-few.was later)
+    handed_on _ (left0 (goal.at.returns-in_err-few c).After-few) c.from_residual.result _ (p.1 ∙ ap Err p.2) c.in_err-few.ensures
+
+pub returns-in_err-few-2 : goal.returns-in_err-few-2
+returns-in_err-few-2 c =
+    let p = err_from_is_err_and c.from_residual-in_err-few-2.result c.from_residual-in_err-few-2.ensures.1 in
+    handed_on _ (left1 (goal.at.returns-in_err-few-2 c).In_ok-few) c.from_residual-in_err-few-2.result _ (p.1 ∙ ap Err p.2) c.in_err-few-2.ensures
+
+pub returns-in_err-few-3 : goal.returns-in_err-few-3
+returns-in_err-few-3 c =
+    let p = err_from_is_err_and c.from_residual-in_err-few-3.result c.from_residual-in_err-few-3.ensures.1 in
+    handed_on _ (left2 (goal.at.returns-in_err-few-3 c).In_ok-few-2) c.from_residual-in_err-few-3.result _ (p.1 ∙ ap Err p.2) c.in_err-few-3.ensures
+
+pub returns-in_err-few-4 : goal.returns-in_err-few-4
+returns-in_err-few-4 c =
+    let p = err_from_is_err_and c.from_residual-in_err-few-4.result c.from_residual-in_err-few-4.ensures.1 in
+    handed_on _ (left3 (goal.at.returns-in_err-few-4 c).In_ok-few-3) c.from_residual-in_err-few-4.result _ (p.1 ∙ ap Err p.2) c.in_err-few-4.ensures
+
+pub returns-in_err-few-5 : goal.returns-in_err-few-5
+returns-in_err-few-5 c =
+    let p = err_from_is_err_and c.from_residual-in_err-few-5.result c.from_residual-in_err-few-5.ensures.1 in
+    handed_on _ (left4 (goal.at.returns-in_err-few-5 c).In_ok-few-4) c.from_residual-in_err-few-5.result _ (p.1 ∙ ap Err p.2) c.in_err-few-5.ensures
+
+pub returns-in_err-few-6 : goal.returns-in_err-few-6
+returns-in_err-few-6 c =
+    let p = err_from_is_err_and c.from_residual-in_err-few-6.result c.from_residual-in_err-few-6.ensures.1 in
+    handed_on _ (left5 (goal.at.returns-in_err-few-6 c).In_ok-few-5) c.from_residual-in_err-few-6.result _ (p.1 ∙ ap Err p.2) c.in_err-few-6.ensures
+
+pub returns-in_err-few-7 : goal.returns-in_err-few-7
+returns-in_err-few-7 c =
+    let p = err_from_is_err_and c.from_residual-in_err-few-7.result c.from_residual-in_err-few-7.ensures.1 in
+    handed_on _ (left6 (goal.at.returns-in_err-few-7 c).In_ok-few-6) c.from_residual-in_err-few-7.result _ (p.1 ∙ ap Err p.2) c.in_err-few-7.ensures
+
+pub returns-in_err-unbroken : goal.returns-in_err-unbroken
+unfolding broken_in
+returns-in_err-unbroken c =
+    let p = err_from_is_err_and c.from_residual-in_err-unbroken.result c.from_residual-in_err-unbroken.ensures.1 in
+    handed_on _ (left7 (goal.at.returns-in_err-unbroken c).In_ok-few-7) c.from_residual-in_err-unbroken.result _ (p.1 ∙ ap Err p.2) c.in_err-unbroken.ensures
+
+pub returns-in_err-unbroken-2 : goal.returns-in_err-unbroken-2
+unfolding broken_in
+returns-in_err-unbroken-2 c =
+    let p = err_from_is_err_and c.from_residual-in_err-unbroken-2.result c.from_residual-in_err-unbroken-2.ensures.1 in
+    handed_on _ (left8 (goal.at.returns-in_err-unbroken-2 c).In_ok-unbroken) c.from_residual-in_err-unbroken-2.result _ (p.1 ∙ ap Err p.2) c.in_err-unbroken-2.ensures
+
+pub returns-in_err-unbroken-3 : goal.returns-in_err-unbroken-3
+unfolding broken_in
+returns-in_err-unbroken-3 c =
+    let p = err_from_is_err_and c.from_residual-in_err-unbroken-3.result c.from_residual-in_err-unbroken-3.ensures.1 in
+    handed_on _ (left9 (goal.at.returns-in_err-unbroken-3 c).In_ok-unbroken-2) c.from_residual-in_err-unbroken-3.result _ (p.1 ∙ ap Err p.2) c.in_err-unbroken-3.ensures
+
+pub returns-in_err-unbroken-4 : goal.returns-in_err-unbroken-4
+unfolding broken_in
+returns-in_err-unbroken-4 c =
+    let p = err_from_is_err_and c.from_residual-in_err-unbroken-4.result c.from_residual-in_err-unbroken-4.ensures.1 in
+    handed_on _ (left10 (goal.at.returns-in_err-unbroken-4 c).In_ok-unbroken-3) c.from_residual-in_err-unbroken-4.result _ (p.1 ∙ ap Err p.2) c.in_err-unbroken-4.ensures
+
+pub returns-in_err-right_total : goal.returns-in_err-right_total
+unfolding broken_in
+returns-in_err-right_total c =
+    let p = err_from_is_err_and c.from_residual-in_err-right_total.result c.from_residual-in_err-right_total.ensures.1 in
+    handed_on _ (left11 (goal.at.returns-in_err-right_total c).In_ok-unbroken-4) c.from_residual-in_err-right_total.result _ (p.1 ∙ ap Err p.2) c.in_err-right_total.ensures
+
+pub returns-in_err-right_total-2 : goal.returns-in_err-right_total-2
+unfolding broken_in
+returns-in_err-right_total-2 c =
+    let p = err_from_is_err_and c.from_residual-in_err-right_total-2.result c.from_residual-in_err-right_total-2.ensures.1 in
+    handed_on _ (left12 (goal.at.returns-in_err-right_total-2 c).In_ok-right_total) c.from_residual-in_err-right_total-2.result _ (p.1 ∙ ap Err p.2) c.in_err-right_total-2.ensures
+
+pub returns-in_err-right_total-3 : goal.returns-in_err-right_total-3
+unfolding broken_in
+returns-in_err-right_total-3 c =
+    let p = err_from_is_err_and c.from_residual-in_err-right_total-3.result c.from_residual-in_err-right_total-3.ensures.1 in
+    handed_on _ (left13 (goal.at.returns-in_err-right_total-3 c).In_ok-right_total-2) c.from_residual-in_err-right_total-3.result _ (p.1 ∙ ap Err p.2) c.in_err-right_total-3.ensures
 
 pub returns : goal.returns
-unfolding link_refusal broken_in
-returns c =
-    let o = offered (goal.at.returns c).After-or_too_many-few-7 in
-    then_broken o link_tables (no_root o c.args.root) (few (goal.at.returns c).In_ok-few)
-    (broken_next Code c.or_broken.ensures
-    (broken_next Symbols c.or_broken-whole-3.ensures
-    (broken_next Functions c.or_broken-whole-2.ensures
-    (broken_next Relocations c.or_broken-whole.ensures
-    (broken_next Instructions c.or_wrong_total-whole-3.ensures
-    (broken_next FuncInfo c.or_wrong_total-whole-2.ensures
-    (broken_next LineInfo c.or_wrong_total-whole.ensures
-    (broken_end o c.or_no_root-whole.ensures))))))))
+unfolding broken_in
+returns c = c.or_no_root.ensures ∙ sym (left14 (goal.at.returns c).In_ok-right_total-3)

@@ -13,7 +13,7 @@ returns c =
     let n = c.function_slots-slots.ensures in
     let d = c.function_address-address.ensures in
     let o = c.function_offset-offset.ensures in
-    let l = c.previous-last.ensures in
+    let l = c.saturating_sub-last.ensures in
     let a = c.args in
     seven (c.is_section.ensures ∙ ap is_section s)
     (ap (leb 1) n)

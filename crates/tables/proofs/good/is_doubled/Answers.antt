@@ -1,12 +1,18 @@
--- No row passed is doubled with row k: what is left of the rows below k says it all.
-use mathlib.Core.Path.{sym, ◌∙◌}
+-- Whether a row below k may not stand with row k.
+use mathlib.Core.Path.{refl, ◌∙◌}
+use Prim.Native.Nat.{ℕ}
 use native.Mathlib.Omega.{arith}
+use borrow.Author.Rules.{rules}
+use borrow.Author.Tests.{tests}
+use Rattle.std.proofs.lemmas.Iterator.{YieldsList-from_range}
+use Rattle.std.proofs.lemmas.Iterator.Search.{any_from_yields_List}
 use Rattle.rules.specs.Rows.{same_map}
-use Rattle.tables.proofs.Doubles.{any_step}
+use Rattle.rows.proofs.Scan.{any_is}
 use Rattle.tables.proofs.good.is_doubled.Goals as goal
 
-pub loop-j-preserved : goal.loop-j-preserved
-loop-j-preserved c =
-    let t = c.args.t.now in
+pub returns : goal.returns
+returns c =
     let k = c.args.k in
-    (omega arith, c.loop-j.invariant.1 ∙ any_step (λ i. same_map t i k) c.loop-j.j k (omega arith) (sym c.same_map.ensures ∙ c.if-same_map.false))
+    let test = λ (j : ℕ). same_map c.args.t.now j k in
+    any_from_yields_List test _ _ c.any.result c.any.ensures.ran (YieldsList-from_range 0 k k refl (omega arith)) (λ x b q r. search (rules, tests))
+    ∙ any_is test 0 k

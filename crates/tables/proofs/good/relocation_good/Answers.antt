@@ -11,7 +11,7 @@ unfolding is_good
 returns c =
     let s = c.relocation_section-section.ensures in
     let o = c.relocation_offset-offset.ensures in
-    let l = c.previous-last.ensures in
+    let l = c.saturating_sub-last.ensures in
     let t = c.args.t.now in
     let k = c.args.k in
     five (c.is_section.ensures ∙ ap is_section s)

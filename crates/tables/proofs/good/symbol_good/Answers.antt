@@ -10,7 +10,7 @@ pub returns : goal.returns
 unfolding is_good
 returns c =
     let i = c.symbol_index-index.ensures in
-    let l = c.previous.ensures in
+    let l = c.saturating_sub.ensures in
     let t = c.args.t.now in
     let k = c.args.k in
     six (ap (λ x. not (eqb x none_number)) i)

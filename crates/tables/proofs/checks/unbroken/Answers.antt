@@ -1,4 +1,4 @@
--- The first broken row, or what is said later.
+-- The number of the first broken row.
 use mathlib.Core.Path.{◌≡◌, sym, ◌∙◌}
 use mathlib.Core.Option.{some}
 use Prim.Native.Nat.{◌≤◌}
@@ -6,8 +6,8 @@ use native.Mathlib.Omega.{arith}
 use Rattle.rules.specs.Rows.{first_broken}
 use Rattle.rows.proofs.Laws.{found_some}
 use Rattle.tables.proofs.Refusals.{broken_low}
-use Rattle.tables.proofs.checks.or_broken.Goals.{After-number}
-use Rattle.tables.proofs.checks.or_broken.Goals as goal
+use Rattle.tables.proofs.checks.unbroken.Goals.{After-number}
+use Rattle.tables.proofs.checks.unbroken.Goals as goal
 
 row_found : (c : After-number) → first_broken c.args.table c.args.t.now ≡ some c.in-Some.k
 row_found c =
