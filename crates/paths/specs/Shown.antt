@@ -1,8 +1,8 @@
 -- What a line says of a walk: the place and the slot's bytes, where it shows them, and how the walk goes on.
 -- Assumes nothing.
-use Rattle.std.specs.Prelude.{◌≡◌, Bool, true, false, cond, List, [], ◌∷◌, ◌++◌, ℕ, ◌+◌, ◌*◌, ◌/◌, ◌%◌, ◌-◌, ◌^◌, ltb, ℤ, length, take, drop, Option, Some, None, codes, flat_map}
+use Rattle.std.specs.Prelude.{◌≡◌, Bool, true, false, List, [], ◌∷◌, ◌++◌, ℕ, ◌*◌, ◌/◌, ◌%◌, ◌-◌, ◌^◌, ltb, ℤ, length, take, drop, Option, Some, None, codes, flat_map}
 use Rattle.std.specs.Borrow.{Bor}
-use Rattle.std.specs.Fmt.{decimal, digit_glyph, padded_integral, format_spec, option_append}
+use Rattle.std.specs.Fmt.{decimal, digit_glyph, padded_integral, format_spec}
 use Rattle.std.specs.Option.{option_map}
 use Rattle.rules.specs.Bytes.{slot_size}
 use Rattle.rules.specs.Lookups.{found_of}

@@ -4,7 +4,6 @@ use Rattle.std.specs.Prelude.{Bool, true, false, List, [], ℕ, ◌+◌, ◌*◌
 use Rattle.std.specs.Prelude.{◌≡◌, ◌≢◌, ◌≤◌, Result, MatchResult}
 use Rattle.rules.specs.Bytes.{little, u32_at}
 use Rattle.tell.specs.Files.{start_of}
-use Rattle.info.specs.declared.RecordKind.{RecordKind}
 use Rattle.info.specs.declared.RecordKind.TheVariants.{Functions, Lines}
 use Rattle.replay.specs.declared.input.Kind.{Kind}
 use Rattle.replay.specs.declared.input.Kind.TheVariants.{Link, MapStep, Records, Record}
