@@ -107,6 +107,7 @@ pub fn barkruffle_examine(
 }
 
 // The link with table 2 lent as rows. They are laid into a table of its own, and linked from there.
+// Table 2 comes as rows, so the four are `Names` only once it is laid out.
 pub fn barkruffle_link_rows(
     code: &[u8],
     symbols: &[Symbol],

@@ -1,5 +1,7 @@
 // Files from a reader. A tables file: eight u32 lengths, then the tables 1 to 8, held as files.rt of tell says. An image file: three u32
 // lengths, then the three runs. A pieces file: rows, and nothing else.
+// Each promises that what was lent keeps its length: a buffer that is written to says so itself. File and table 6 are two buffers, since
+// the map step writes to the second while it reads the first.
 ghost use Rattle.std.specs.Prelude.{◌≡◌, true, ◌≤◌, ◌<◌, length, IfOk, Ok};
 ghost use Rattle.clerk.specs.Status.{is_end};
 ghost use Rattle.clerk.specs.Filled.{Filled, most_of, unread_of};

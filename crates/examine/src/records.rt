@@ -199,6 +199,7 @@ fn check_most(table: Table, t: &[u8], most: u32) -> Result<(), Refusal>
 }
 
 // So many records belong to the pieces.
+// Two sums that grow from piece to piece, beside what is shown.
 #[tactic(auto, using(crate::proofs::Same::over_parts))]
 pub fn check_over(image: Program, funcs: u32, lines: u32) -> Result<(), Refusal>
     ensures { refusal_in result ≡ over_wrong

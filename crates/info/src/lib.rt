@@ -41,6 +41,7 @@ impl RecordKind {
 }
 
 // "Slot = byte offset / 8": the byte offset with which a record begins.
+// The four bytes are a clause of three private readers: a type for a record's head would be built once for each.
 fn offset_in(bytes: &[u8]) -> ByteOffset
     requires { 4 ≤ length bytes.now }
     ensures { (result.0 ≡ u32_at little bytes.now 0) × (result.0 < 2 ^ 32) }

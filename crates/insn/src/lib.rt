@@ -49,6 +49,7 @@ pub fn is_on_grid(o: ByteOffset) -> bool
 }
 
 // The section's byte offset of a slot of a function that starts at `base`.
+// Below 2^48 is a clause here and of `byte_target` and `value`: document 01 fixes the two kinds of number, and asks no third of callers.
 pub fn place(base: ByteOffset, s: Slot) -> ByteOffset
     requires { base.0 < 2 ^ 48 }
     ensures { (result.0 ≡ base.0 + offset_of s.0) × (result.0 < 2 ^ 49) }

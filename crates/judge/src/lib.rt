@@ -68,6 +68,7 @@ impl Site {
     }
 }
 
+// Sound tables are clauses here and in `rows`, which answers for any bytes that a caller holds.
 fn find_map(maps: &[u8], symbol: u32, home: u32) -> Option<usize>
     requires { Sound Maps maps.now }
     ensures { result ≡ found_of (map_found maps.now symbol home) }
@@ -75,6 +76,7 @@ fn find_map(maps: &[u8], symbol: u32, home: u32) -> Option<usize>
     find_map_symbol(maps, symbol).or_else(|| find_map_section(maps, home))
 }
 
+// Has-data is the row's byte (rows, fields): a reader that gave a bool would be a second one, for this place alone.
 fn by_data(
     maps: &[u8],
     m: usize,

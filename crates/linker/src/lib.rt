@@ -104,6 +104,7 @@ fn placed(
 }
 
 // Visits the slots of a function that starts there; its first slot in table 6 is `first`.
+// Row, start and first slot are three numbers of the visit, read once each.
 #[cycle(link_function_placed_relocate)]
 fn relocate(
     names: Names,

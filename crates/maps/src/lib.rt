@@ -23,6 +23,7 @@ use rules::{ByteOffset, Names, Places, Refusal, Slot};
 use std::ops::Range;
 use tables::checks::check_map_step;
 
+// Its clauses are those of the rows that it reads; one row is read once, so a type for them would be built for one use.
 fn end_of(functions: &[u8], row: usize) -> ByteOffset
     requires { Sound Functions functions.now × (row < whole_rows Functions functions.now) }
     ensures { result.0 ≡ end_of functions.now row }

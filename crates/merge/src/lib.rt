@@ -49,6 +49,7 @@ impl Add for Used {
 }
 
 // What a row counts.
+// That the row is one of table 3 stays a clause, here and of has_room, which docs/CLAIMS.md names.
 fn counts(functions: &[u8], row: usize) -> Used
     requires { row < whole_rows Functions functions.now }
     ensures { RowCounts functions.now row result }
@@ -155,6 +156,7 @@ fn copy_rows(size: usize, table: &[u8], first: u32, count: u32, out: &mut [u8], 
 
 // The crate's link_func_and_line_info. Two loops: the new slot of a line record is another, and one generic loop would ask for a trait with
 // laws longer than both.
+// `part`, `more` and `used` are three places to count from, not one thing: where records stand, how many, and where they go.
 fn link_func_info(func_info: &[u8], part: Used, more: Used, out: &mut [u8], used: Used)
     requires { Copyable (row_size FuncInfo) func_info.now part.funcs more.funcs out.old used.funcs }
     ensures { out.new ≡ splice

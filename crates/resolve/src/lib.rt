@@ -42,6 +42,8 @@ pub struct Pointer {
     pub reference: bool,
 }
 
+// Sound tables, an address and a target stay clauses and parameters from here to `by_relocation`: these functions are public and nobody's inner ones,
+// so no type may ask in place of a clause; each takes what its sentence of document 01 names.
 pub fn by_address(functions: &[u8], home: u32, target: i64) -> Result<Option<usize>, Unnamed>
     requires { Sound Functions functions.now }
     ensures { named_of result ≡ or_missing (function_with functions.now home target) }

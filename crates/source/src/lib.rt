@@ -35,6 +35,7 @@ pub fn slots_of(functions: &[u8], row: usize) -> u32
 }
 
 // Where a row's slots begin in table 6: of the three sums of merge's part_of the one that a walk needs, at every step.
+// A checked table 3 and a row of it stay clauses: the function is public and called with any bytes that a caller holds.
 pub fn first_slot(functions: &[u8], row: usize) -> Slot
     requires { Sound Functions functions.now × (row < whole_rows Functions functions.now) }
     ensures { result.0 ≡ summed (function_slots functions.now) 0 row }

@@ -1,4 +1,5 @@
-// Whether row k of a table is good. Every test of a row is made, without a branch.
+// Whether row k of a table is good. Every test of a row is made, without a branch. Table and row come side by side, as the readers of
+// `rows` take them; a bound is one comparison, as the definition has it.
 ghost use Rattle.std.specs.Prelude.{◌≡◌, not, ◌||◌, ◌+◌, ◌*◌, ◌-◌, ◌≤◌, ◌<◌, eqb, ltb, length};
 ghost use Rattle.rules.specs.declared.Table.TheVariants.{Code, Symbols, Functions, Relocations, Maps};
 ghost use Rattle.rules.specs.Rows.{row_size, is_section, is_section_or_none, is_address, same_map, any_from, is_good};

@@ -1,5 +1,6 @@
 // The two files: the tables file as it is held, and the lengths at the start of an image file. A held tables file is its eight
 // lengths and its tables in one run of bytes, but for table 6: the map step writes to it, so it has a buffer of its own.
+// That the file holds its lengths is a clause: replay and the tool lend bytes of their own buffers.
 ghost use Rattle.std.specs.Prelude.{◌≡◌, [], ◌∷◌, ◌+◌, ◌*◌, ◌<◌, ◌≤◌, length};
 ghost use Rattle.rules.specs.Bytes.{little, u32_at};
 ghost use Rattle.rules.specs.Answers.{places_in};

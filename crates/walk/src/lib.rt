@@ -164,6 +164,7 @@ pub fn ahead(slot: Slot, by: u32, d: i32) -> i64
 }
 
 // The offset, widened to an immediate's size.
+// Code and slot side by side, with room for the slot as a clause, as insn's readers have them.
 pub fn jump(code: &[u8], here: Slot) -> i32
     requires { slot_size * here.0 + slot_size ≤ length code.now }
     ensures { result ≡ (slot_in little code.now here.0).offset }
