@@ -25,6 +25,7 @@ pub fn finding(cause: Cause, first: u32, second: u32, third: u32) -> Refusal
     }
 }
 
+// Functions by name, as docs/CLAIMS.md has them, here and below: a From would be no plainer.
 pub fn number_of(cause: Cause) -> u32
     ensures { result ≡ number_of cause }
 {

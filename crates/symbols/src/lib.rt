@@ -24,6 +24,7 @@ pub struct Symbol {
 
 const PADDING: usize = 7;
 
+// Here and not beside wire's stores: nothing else writes a u64.
 fn put_u64(out: &mut [u8], at: usize, v: u64)
     requires { at + 8 ≤ length out.old }
     ensures { out.new ≡ splice out.old at (bytes8 v) }

@@ -128,6 +128,7 @@ fn map_good(t: &[u8], k: usize) -> bool
         & !is_doubled(t, k)
 }
 
+// Each table has a test of its own, so a match and no table of functions.
 pub fn is_good(table: Table, t: &[u8], k: usize) -> bool
     requires { row_size table * k + row_size table ≤ length t.now }
     ensures { result ≡ is_good table t.now k }

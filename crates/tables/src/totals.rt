@@ -7,19 +7,13 @@ use rows::fields::{function_func_info, function_line_info, function_slots};
 use rules::Table;
 use rules::limits::FUNCTION_SIZE;
 
-fn slots_of(functions: &[u8], k: usize) -> u32
-    requires { row_size Functions * k + row_size Functions ≤ length functions.now }
-    ensures { result ≡ function_slots functions.now k }
-{
-    function_slots(functions, k).0
-}
-
+// By the table, whose column it is: a match says which.
 fn count_of(table: Table, functions: &[u8], k: usize) -> u32
     requires { row_size Functions * k + row_size Functions ≤ length functions.now }
     ensures { result ≡ count_of table functions.now k }
 {
     match table {
-        Table::Instructions => slots_of(functions, k),
+        Table::Instructions => function_slots(functions, k).0,
         Table::FuncInfo => function_func_info(functions, k),
         Table::LineInfo => function_line_info(functions, k),
         Table::Code | Table::Symbols | Table::Functions | Table::Relocations | Table::Maps => 0,
