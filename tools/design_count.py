@@ -7,7 +7,8 @@ python3 tools/design_count.py facts            the facts of point 5, one by one,
 POINT is 1 to 8; `uses` counts where the types of point 1 are used, and `casts` the casts beside point 4. Run it at the top of the repository.
 
 Points 3, 5, `uses`, `casts` and 8 follow from the text. The others rest on reading: the lists below name what was read, by crate and name, and
-the script finds where each stands now. A struct that no list knows is printed as `unread`, so that none is passed over.
+the script finds where each stands now. A struct that no list knows is printed as `unread`, so that none is passed over. A place whose name
+stayed when it took another form is in TODAY with what its new text has, and is counted only where it hasn't that.
 """
 import glob
 import os
@@ -18,8 +19,11 @@ import sys
 FLAGGED = {'linker': 'Step Linked Listed', 'clerk': 'Taken Held Made', 'tell': 'Told', 'paths': 'Names Header Words Place',
            'replay': 'Header', 'barkruffle': 'Part'}
 # Structs that are none: several values that stand for themselves. (tell Words and Sentence: point 6.)
-PLAIN = {'rules': 'Slot ByteOffset Places Refusal', 'judge': 'Site', 'merge': 'Used', 'symbols': 'Symbol', 'linker': 'State',
-         'tell': 'Words Sentence', 'clerk': 'Name Reason Unnumbered'}
+PLAIN = {'rules': 'Slot ByteOffset Places Refusal Names Program Image Place', 'info': 'Records', 'judge': 'Site Change', 'resolve': 'Pointer',
+         'walk': 'Here ImageGround TooLong', 'source': 'SourceGround', 'merge': 'Used', 'symbols': 'Symbol', 'linker': 'State Linked Listed',
+         'examine': 'Cursor Piece FuncRecord LineRecord Compared', 'tell': 'Words Sentence Source Line Listing Wording',
+         'clerk': 'Name Reason Unnumbered Held Made', 'tool': 'Missing', 'paths': 'Object InSource InImage Bytes Line Where Header Place',
+         'replay': 'UnknownKind Case Hex Answer Header'}
 # Numbers that stand for kinds, for refusals or for nothing: a group is a place.
 NUMBERS = [
     ('kinds of a symbol', 'rules', 'limits.rt', r'const (OTHER|TEXT|SECTION)\b'),
@@ -28,7 +32,7 @@ NUMBERS = [
     ('numbers of refusals', 'answers', 'lib.rt', r'Cause::\w+ => \d+'),
     ('kinds of an opcode', 'insn', 'kinds.rt', r'const [A-Z_]+: u8'),
     ('numbers of tables', 'tables', 'limits.rt', r'Table::\w+ => \d+'),
-    ('sizes of a relocation', 'resolve', 'lib.rt', r'size == \d+'),
+    ('sizes of a relocation', 'resolve', 'lib.rt', r'size == \d+|match size\b'),
     ('0 for a function not placed', 'linker', 'lib.rt', r'starts\[callee\] == 0'),
     ('the number of the list', 'examine', 'sizes.rt', r'const LIST_NUMBER\b'),
     ('no row', 'barkruffle', 'lib.rt', r'const NO_ROW\b'),
@@ -44,7 +48,7 @@ NUMBERS = [
     ('kinds of a case', 'replay', '', r'kind == \d|index, [12], number'),
 ]
 # Flags given to a function that chooses by them.
-FLAGS = [('resolve', 'decide'), ('linker', 'point'), ('tell', 'put_place'), ('tell', 'put_bytes'), ('clerk', 'most_of'),
+FLAGS = [('resolve', 'decide'), ('linker', 'point'), ('tell', 'put_place'), ('tell', 'put_bytes'), ('tell', 'push_place'), ('tell', 'push_bytes'), ('clerk', 'most_of'),
          ('clerk', 'read_after'), ('clerk', 'read_tables'), ('tool', 'write_list'), ('tool', 'write'), ('tool', 'link_root'),
          ('replay', 'read_records'), ('replay', 'record_number'), ('replay', 'record_bytes')]
 
@@ -117,9 +121,10 @@ BY_HAND = [
                     ('tables', '', 'table_number wide'), ('judge', '', 'find_map fits'), ('maps', '', 'refusal_of'),
                     ('resolve', '', 'by_address'), ('walk', '', 'slot_in'), ('source', '', 'entered move_at'),
                     ('symbols', '', 'rows_needed'), ('barkruffle', '', 'row_number part_of'),
-                    ('tell', '', 'told_of parse digit hex'), ('clerk', '', 'read_of status_of'), ('tool', '', 'no_maps'),
+                    ('tell', '', 'told_of parse digit hex'), ('clerk', '', 'read_of unread_of status_of'), ('tool', '', 'no_maps'),
                     ('paths', '', 'small wide bytes_of'), ('replay', '', 'part wide')]),
-    ('printing', [('tell', 'lines.rt', 'put put_place put_number put_byte put_bytes put_piece put_line'), ('paths', 'show.rt', 'write'),
+    ('printing', [('tell', 'lines.rt', 'put put_place put_number put_byte put_bytes put_piece put_line '
+                   'push push_place push_number push_byte push_bytes push_marked push_line'), ('paths', 'show.rt', 'write'),
                   ('replay', 'show.rt', 'hex field')]),
 ]
 
@@ -158,8 +163,8 @@ BUFFERS = [
     ('length beside', 'pieces', 'order.rt', r'^(pub )?fn (find_start|put_list)\b'),
     ('length beside', 'walk', 'lib.rt', r'^pub fn (image_move|image_step|image_run)\b'),
     ('length beside', 'tool', '', r'= \(?(eights\(|\(u32_at\(lengths|\(length_of)'),
-    ('length beside', 'paths', 'main.rt', r'let (m|k|used|both) = .*(min|names)'),
-    ('length beside', 'replay', 'main.rt', r'let [nabcpm] = part\('),
+    ('length beside', 'paths', 'main.rt', r'let (m|k|n|used|both) = .*(min|names)|WORDS\.min\('),
+    ('length beside', 'replay', 'main.rt', r'let [nabcpm] = part\(|header\.part\('),
     ('parallel', 'source', 'lib.rt', r'^\s+frame_rows: &mut'),
     ('parallel', 'tell', 'words.rt', r'pub struct Sentence\b'),
     ('parallel', 'paths', 'show.rt', r'^fn write\b'),
@@ -183,6 +188,62 @@ SWITCHES = [
                 ('clerk', '', 'read_table nameless pick read'), ('tell', 'commands.rt', 'asked'), ('tell', 'lines.rt', 'put_piece'),
                 ('replay', '', 'reader run_case read_records record_number record_bytes')]),
     ('table', [('insn', 'kinds.rt', 'KINDS'), ('tell', 'words.rt', 'PLACE_LINES'), ('tell', 'room.rt', 'ROOM')]),
+]
+
+# (points, crate, names, pattern): places of the lists above that are in today's form where the text of their file has the pattern.
+TODAY = [
+    # values and errors by Option and Result
+    ('1', 'linker', 'Linked Listed', r'Result<(Linked|Listed), Refusal>'),
+    ('1', 'clerk', 'Held Made', r'Result<Made, Refusal>|Held<'),
+    ('1', 'paths', 'Header Place', r'Result<Header, Stop>|struct Place<P>'),
+    ('1', 'replay', 'Header', r'Result<Header, Stop>'),
+    ('6', 'paths', 'Header', r'Result<Header, Stop>'),
+    ('6', 'replay', 'Header', r'Result<Header, Stop>'),
+    ('2', 'tell', 'Source Line', r'Option<(Source|Line)>'),
+    ('4', 'resolve', 'by_address', r'Result<Option<usize>, Unnamed>'),
+    ('7', 'maps', 'rewrite_one', r'let Ok\(Some\(change\)\)'),
+    ('7', 'clerk', 'read', r'Result<\(\), Unread>'),
+    ('7', 'tool', 'bark_run', r'status\(answered\(rt\)\)'),
+    ('7', 'tell', 'asked', r'Option<Command>'),
+    # enums with derives
+    ('7', 'walk', 'leads_at', r'match kind\('),
+    ('7', 'insn', 'KINDS', r'\[Kind; 256\]'),
+    ('2', 'info', 'row_size record record_number', r'enum RecordKind'),
+    ('2', 'replay', 'records', r'kind: RecordKind'),
+    # one function over a size, a type or a test
+    ('2', 'wire', 'u16_at u32_at u64_at i16_at i32_at put_u32 put_i32', r'const N: usize'),
+    ('2', 'answers', 'refusal finding', r'finding\(cause, first, second, 0\)'),
+    ('2', 'tables', 'check_map_step check_link', r'few\(Table'),
+    ('2', 'walk', 'Move Stand arrive frameless leads_at walk_image', r'trait Ground'),
+    ('2', 'source', 'move_at walk_source slots_of', r'impl Ground for'),
+    ('2', 'pieces', 'put_piece', r'put_numbers\('),
+    ('2', 'examine', 'check_funcs check_lines', r'check_run\('),
+    ('2', 'clerk', 'write_image write_pieces', r'fn write<'),
+    ('2', 'paths', 'Header read_header source_at image_at', r'impl Object'),
+    ('2', 'replay', 'Header read_header word', r'impl Header'),
+    ('2', 'replay', 'link record', r'answer: Answer'),
+    # the library's methods
+    ('26', 'rows', 'is_code find_symbol find_function find_relocation find_map_symbol find_map_section relocations_before', r'\.find\('),
+    ('2', 'tables', 'first_broken is_doubled', r'\.(find|any)\('),
+    ('2', 'symbols', 'find_rows', r'\.position\('),
+    ('2', 'merge', 'stray_line', r'\.find\('),
+    ('26', 'pieces', 'starts_before', r'\.partition_point\('),
+    ('26', 'pieces', 'find_start', r'\.position\('),
+    ('4', 'wire', 'signed32', r'cast_signed'),
+    ('4', 'wire', 'bits32', r'cast_unsigned'),
+    ('4', 'wire', 'copy', r'\.copy_from_slice\(&src'),
+    ('4', 'wire', 'wipe wipe_after', r'\.fill\(0\)'),
+    ('4', 'answers', 'number_of', r'cause as u32'),
+    ('4', 'info', 'offset_in', r'offset_at\(u64::from'),
+    ('4', 'judge', 'find_map', r'\.or_else\('),
+    ('4', 'walk', 'slot_in', r'usize::try_from\(at\)'),
+    ('6', 'tell', 'last_at', r'\.rev\(\)\s*\.r?find\('),
+    # methods of a type, with its invariant
+    ('4', 'source', 'move_at', r'fn move_at\(&self'),
+    ('4', 'tool', 'no_maps', r'fn no_maps\(self\)'),
+    ('4', 'replay', 'part', r'fn part\(&self'),
+    ('6', 'tell', 'Words', r'impl Model for Words'),
+    ('6', 'tell', 'table', r'table: Table\)'),
 ]
 
 VALUES = 'Refusal', 'io::Error'
@@ -225,6 +286,8 @@ def block(text, at, pair='{}'):
     """From the bracket at `at` to the one that closes it."""
     depth = 0
     for i in range(at, len(text)):
+        if pair == '<>' and text[i] == '>' and text[i - 1] in '-=':
+            continue
         depth += (text[i] == pair[0]) - (text[i] == pair[1])
         if depth == 0:
             return i + 1
@@ -256,7 +319,7 @@ class Function:
                 self.params.append(re.sub(r'^mut ', '', p.split(':')[0].strip()))
         self.clauses = {'requires': '', 'ensures': ''}
         while True:
-            k = re.compile(r'[^{;]*?(requires|ensures)?\s*\{').match(b, end)
+            k = re.compile(r'[^{;]*?(?:(requires|ensures)(?:\s+\w+)?)?\s*\{').match(b, end)
             if not k:
                 self.body = (end, end)
                 return
@@ -273,6 +336,10 @@ def functions(f):
     return [Function(f, m) for m in re.finditer(head, f.bare, re.M)]
 
 
+def today(f, point, name):
+    return any(point in points and f.crate == crate and name in words.split() and re.search(pattern, f.bare) for points, crate, words, pattern in TODAY)
+
+
 def enums(f):
     for line, m in f.found(r'^[ \t]*(?:pub )?enum (\w+)[^{]*\{'):
         body = f.bare[m.end():block(f.bare, m.end() - 1) - 1]
@@ -281,8 +348,9 @@ def enums(f):
 
 def shaped(all_files):
     """The enums of the shape of Option or Result: two variants of which one carries a value at least; or one variant alone carries a
-    value; or one carries a refusal, an error or an enum of this shape."""
-    known, names = [(f, line, name, variants) for f in all_files for line, name, variants in enums(f)], set()
+    value; or one carries a refusal, an error or an enum of this shape. An error of a Result is none."""
+    errors_of = {m for f in all_files for m in re.findall(r'Result<.*, (?:\w+::)?(\w+)>', f.bare)}
+    known, names = [(f, line, name, variants) for f in all_files for line, name, variants in enums(f) if name not in errors_of], set()
     for _ in range(3):
         for f, line, name, variants in known:
             carrying = [v for v in variants if re.search(r'[({]', v)]
@@ -292,15 +360,15 @@ def shaped(all_files):
     return [(f, line, name, name in names) for f, line, name, variants in known]
 
 
-def named(files, lists):
-    """(kind, [(crate, file, names)]) as places."""
+def named(files, lists, point):
+    """(kind, [(crate, file, names)]) as places of a point."""
     for kind, wanted in lists:
         for crate, name, words in wanted:
             for f in files:
                 if f.crate != crate or name not in ('', f.name):
                     continue
-                for line, m in f.found(r'^[ \t]*(?:#\[[^\]]*\]\s*)*(?:pub(?:\(crate\))? )?(?:extern +)?(?:fn|enum|struct|const) (\w+)'):
-                    if m.group(1) in words.split() or (words == '*' and ' fn ' in ' ' + m.group()):
+                for line, m in f.found(r'^[ \t]*(?:#\[[^\]]*\]\s*)*(?:pub(?:\(crate\))? )?(?:extern +)?(?:fn|enum|struct|const|static) (\w+)'):
+                    if (m.group(1) in words.split() or words == '*' and ' fn ' in ' ' + m.group()) and not today(f, point, m.group(1)):
                         at = f.line(m.start(1))
                         yield f, at, kind, f.lines[at - 1]
 
@@ -311,7 +379,7 @@ def point1(files):
             yield f, line, 'enum', f.lines[line - 1]
     for f in files:
         for line, m in f.found(r'^[ \t]*(?:pub )?struct (\w+)'):
-            if m.group(1) in FLAGGED.get(f.crate, '').split():
+            if m.group(1) in FLAGGED.get(f.crate, '').split() and not today(f, '1', m.group(1)):
                 yield f, line, 'struct', f.lines[line - 1]
             elif m.group(1) not in PLAIN.get(f.crate, '').split():
                 yield f, line, 'unread', f.lines[line - 1]
@@ -328,7 +396,10 @@ def point1(files):
 
 def uses(files):
     names = [name for _, _, name, is_shape in shaped(files) if is_shape]
-    structs = sorted({n for words in FLAGGED.values() for n in words.split()})
+    flagged = {(f.crate, name) for f, _, kind, text in point1(files) if kind == 'struct' for name in re.findall(r'struct (\w+)', text)}
+    structs = sorted({name for _, name in flagged})
+    if not names:
+        names = [r'\b\B']  # none
     for f in files:
         rows = f.bare.split('\n')
         for i, row in enumerate(rows):
@@ -340,12 +411,12 @@ def uses(files):
             if re.search(r'->\s*(?:\w+::)?(' + '|'.join(names) + r')\b', row):
                 yield f, i + 1, 'result', f.lines[i]
             for m in re.finditer(r'(?<![\w:])(' + '|'.join(structs) + r') \{', row):
-                if m.group(1) in FLAGGED.get(f.crate, '').split() and not re.search(r'struct |-> ', row):
+                if (f.crate, m.group(1)) in flagged and not re.search(r'struct |-> |\bimpl\b', row):
                     yield f, i + 1, 'struct made', f.lines[i]
 
 
 def point2(files):
-    yield from named(files, TWINS)
+    yield from named(files, TWINS, '2')
 
 
 def point3(files):
@@ -363,12 +434,12 @@ def point3(files):
 
 
 def point4(files):
-    yield from named(files, BY_HAND)
+    yield from named(files, BY_HAND, '4')
     for f in files:
         for line, _ in f.found(r'if let \w+::\w+ = \w+ \{ true \} else \{ false \}'):
             yield f, line, 'equality', f.lines[line - 1]
         for g in functions(f):
-            for m in re.finditer(r'\w\.0( as \w+)?\)? ([=!]=|[<>]=?) |([=!]=|[<>]=?) \w+\.0\b', f.bare[g.body[0]:g.body[1]]):
+            for m in re.finditer(r'[\w)]\.0( as \w+)?\)? ([=!]=|[<>]=?) |([=!]=|[<>]=?) \w+\.0\b', f.bare[g.body[0]:g.body[1]]):
                 line = f.line(g.body[0] + m.start())
                 yield f, line, 'newtype', f.lines[line - 1]
 
@@ -432,12 +503,14 @@ def point6(files):
     for kind, crate, name, pattern in BUFFERS:
         for f in files:
             if f.crate == crate and name in ('', f.name):
-                for line, _ in f.found(pattern):
-                    yield f, line, kind, f.lines[line - 1]
+                for line, m in f.found(pattern):
+                    head = re.search(r'(?:fn|struct) (\w+)', m.group())
+                    if not (head and today(f, '6', head.group(1))):
+                        yield f, line, kind, f.lines[line - 1]
 
 
 def point7(files):
-    yield from named(files, SWITCHES)
+    yield from named(files, SWITCHES, '7')
 
 
 def print_facts(files):
