@@ -181,6 +181,7 @@ pub struct Part {
     pub len: u64,
 }
 
+// By its number, as Placed has it.
 fn part_of(a: Result<Places, Refusal>, size: u32, k: u32) -> Part
     ensures { Placed (eqb (reply_of a).number 0) size k result.at result.len }
 {

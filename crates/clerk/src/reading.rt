@@ -75,7 +75,8 @@ pub fn fill(reader: &mut impl io::Read, buf: &mut [u8], at: usize, n: usize) -> 
     read_all(reader, &mut buf[at..at + n])
 }
 
-// Why a file was not had whole. The runs of an image have the numbers of their tables, 6 to 8.
+// Why a file was not had whole. The runs of an image have the numbers of their tables, 6 to 8: the
+// words take numbers (tell, of_part), so a Table would be turned into one at both uses.
 #[derive(Clone, Copy)]
 pub enum Unread {
     NoLengths,
@@ -86,6 +87,7 @@ pub enum Unread {
     NotClosed,
 }
 
+// No From: the table and the two numbers come beside what is lacking.
 fn unread_of(lack: Lack, table: u32, needs: u32, holds: u32) -> Unread
     ensures { result ≡ unread_of lack table needs holds }
 {

@@ -49,6 +49,7 @@ pub fn link(held: Held, root: u32, image: &mut Image) -> Result<Places, Refusal>
 }
 
 // What a link with its list gives: how much it placed, and the bytes of the list.
+// The list itself is lent, as in the linker's Listed.
 #[derive(Clone, Copy)]
 pub struct Made {
     pub places: Places,

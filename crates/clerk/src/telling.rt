@@ -152,6 +152,7 @@ pub fn failed(rt: &impl Eprint, path: &[u8], file: usize, what: usize, why: io::
 }
 
 // The same of a file whose path is not at hand.
+// `file` may be any line (tell, text.rt).
 pub fn nameless(rt: &impl Eprint, file: usize, what: usize, why: io::Error) {
     let path: &[u8] = match file {
         TABLES_FILE => b"TABLES",

@@ -262,6 +262,7 @@ pub fn link(names: Names, program: Program, image: &mut Image, root: u32) -> Res
 }
 
 // What a link with its list gives: how much it placed, and how many pieces the list has.
+// A count and no slice: the list is lent by the caller, who has it back.
 #[derive(Clone, Copy)]
 pub struct Listed {
     pub places: Places,

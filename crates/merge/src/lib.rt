@@ -140,6 +140,7 @@ pub fn stray_line(functions: &[u8], line_info: &[u8], row: usize, first: u32) ->
     (0..count).find(|k| is_stray(line_info, at + *k, origin, slots))
 }
 
+// Rows, where wire's copy counts bytes.
 fn copy_rows(size: usize, table: &[u8], first: u32, count: u32, out: &mut [u8], at: u32)
     requires { Copyable size table.now first count out.old at }
     ensures copied { out.new ≡ splice out.old (size * at) (take (size * count) (drop (size * first) table.now)) }

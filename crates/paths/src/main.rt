@@ -22,7 +22,8 @@ use walk::{TooLong, walk_image};
 // An object's name and its answers.
 const WORDS: usize = 128;
 
-// The image, and the frames that each walk is lent.
+// The image, and the frames that each walk is lent. Arrays of fixed size, cut to what an object fills, and no Vec: a run can't end for
+// want of memory.
 const IMAGE: usize = 1024;
 
 const FRAMES: usize = 4;
@@ -77,6 +78,7 @@ fn read_header(input: &mut impl io::Read) -> Result<Header, Stop> {
 }
 
 // Where a row's slots begin in table 6, which has so many rows at most.
+// Not source's first_slot: that asks a checked table 3 and a row of it, and what is printed may be any object.
 fn first_of(functions: &[u8], row: usize) -> usize {
     let mut first = 0;
     for k in 0..row.min(MOST_FUNCTIONS) {

@@ -138,7 +138,7 @@ pub fn slot_bytes(code: &[u8], first: usize, slot: usize) -> Option<&[u8]>
     code.get(at..)?.get(..INSTRUCTION_SIZE)
 }
 
-// A slot's bytes, in hexadecimal; nothing where there are none.
+// A slot's bytes, in hexadecimal; nothing where there are none. replay has digits of its own: two programs, and neither lends to the other.
 #[derive(Clone, Copy)]
 struct Bytes<'a>(Option<&'a [u8]>);
 

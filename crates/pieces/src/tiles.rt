@@ -54,6 +54,7 @@ pub fn check_tiles(functions: &[u8], pieces: &[u8], end: Slot) -> Result<(), Ref
 }
 
 // How many pieces start before a slot of the image. That the starts rise stays a clause here and of starts_at, which docs/CLAIMS.md names.
+// `place` is any u64, so it is no Slot to compare with.
 fn starts_before(pieces: &[u8], place: u64) -> usize
     requires { StartsRise pieces.now }
     ensures { (result ≡ starts_before pieces.now place) × (result ≤ listed pieces.now) }

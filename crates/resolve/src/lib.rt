@@ -55,6 +55,7 @@ pub fn by_address(functions: &[u8], home: u32, target: i64) -> Result<Option<usi
 }
 
 // "Section with size 32 targets address + 8 × (immediate + 1), with size 64 address + immediate; anything else 8".
+// Any byte is a size to it, and the two are told apart here alone: an enum of them would be no plainer.
 pub fn by_section(
     functions: &[u8],
     home: u32,

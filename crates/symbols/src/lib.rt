@@ -56,6 +56,7 @@ pub fn find_rows(rows: &[Symbol], index: u32) -> Option<usize>
 }
 
 // The rows that a link has to see as the byte table, from the start of `out` on, and how many they are.
+// A count and no slice, as docs/CLAIMS.md has it: its promise is over all of out.
 pub fn lay_rows(rows: &[Symbol], out: &mut [u8]) -> usize
     requires { rows_room ≤ length out.old }
     ensures { (result ≡ rows_needed (length rows.now)) × (out.new ≡ laid_in rows.now out.old) }

@@ -96,6 +96,7 @@ impl Words {
     }
 
     // A digit, or what stands for a zero before the first digit: a space or nothing.
+    // The two flags are place_of's.
     #[tactic(auto, using(crate::proofs::Added::none))]
     fn push_place(&mut self, d: u32, begun: bool, blank: bool)
         requires { d < 10 }
@@ -132,6 +133,7 @@ impl Words {
     }
 
     // Four bytes, the least first.
+    // Four bytes, the least first. The flag is bytes_words'.
     #[tactic(auto, using(crate::proofs::Added::none, crate::proofs::Spelled::four, crate::proofs::Spelled::bytes_on, crate::proofs::Spelled::bytes_end))]
     fn push_bytes(&mut self, n: u32, spaced: bool)
         ensures { self.new ≡ added (bytes_words 4 spaced n) self.old }
@@ -204,6 +206,7 @@ fn line_from(text: &[u8], k: usize) -> &[u8]
 }
 
 // Lines of a text, one after the other, each with the next three numbers.
+// Two lists of any lengths: a number that is not there is 0.
 #[tactic(auto, using(crate::proofs::Added::none, crate::proofs::Added::first, crate::proofs::Spelled::spoken_on, crate::proofs::Spelled::spoken_end))]
 pub fn spoken_line(text: &[u8], lines: &[usize], numbers: &[u32]) -> Words
     ensures { result ≡ take line_room (spoken text.now lines.now numbers.now 0) }

@@ -154,6 +154,7 @@ pub fn of_part(file: usize, what: usize, table: u32, after: usize, a: u32, b: u3
     }
 }
 
+// std's to_digit is a char's: by way of one this would be no plainer.
 fn digit(b: u8) -> Option<u32>
     ensures { result ≡ digit_of b }
 {

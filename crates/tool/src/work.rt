@@ -35,6 +35,7 @@ impl Task {
     }
 }
 
+// Three steps with other arguments each: a closure handed down from lib.rt would be no plainer than its name.
 fn with_maps(
     rt: &(impl Env + Files + Print + Eprint),
     task: Task,
@@ -91,6 +92,7 @@ pub fn bark(rt: &(impl Env + Files + Print + Eprint), task: Task, root: u32) -> 
     let mut file = [0u8; FILE];
     let mut instructions = [0u8; INSTRUCTIONS];
     telling::read(rt, TABLES_FILE, read(tables, &mut file, &mut instructions))?;
+    // an array of fixed size too, of which the file's own length counts
     let n = (length_of(&file, Table::Instructions) as usize).min(instructions.len());
     with_maps(rt, task, root, &file, &mut instructions[..n])
 }

@@ -107,6 +107,7 @@ pub fn step<G: Ground>(
             if taken >= answers.len() {
                 return Stand::Stopped(at, depth);
             }
+            // an answer is a byte that is lent: 1 is yes, as the definition has it
             let next = if answers[taken] == 1 { on_yes } else { on_no };
             arrive(ground, next, depth, taken + 1)
         }
