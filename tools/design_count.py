@@ -48,9 +48,9 @@ NUMBERS = [
     ('kinds of a case', 'replay', '', r'kind == \d|index, [12], number'),
 ]
 # Flags given to a function that chooses by them.
-FLAGS = [('resolve', 'decide'), ('linker', 'point'), ('tell', 'put_place'), ('tell', 'put_bytes'), ('tell', 'push_place'), ('tell', 'push_bytes'), ('clerk', 'most_of'),
-         ('clerk', 'read_after'), ('clerk', 'read_tables'), ('tool', 'write_list'), ('tool', 'write'), ('tool', 'link_root'),
-         ('replay', 'read_records'), ('replay', 'record_number'), ('replay', 'record_bytes')]
+FLAGS = [('resolve', 'decide'), ('linker', 'point'), ('tell', 'put_place'), ('tell', 'put_bytes'), ('tell', 'push_place'),
+         ('tell', 'push_bytes'), ('clerk', 'most_of'), ('clerk', 'read_after'), ('clerk', 'read_tables'), ('tool', 'write_list'),
+         ('tool', 'write'), ('tool', 'link_root'), ('replay', 'read_records'), ('replay', 'record_number'), ('replay', 'record_bytes')]
 
 # Point 2: groups of functions or types that differ in a type, a size or a constant. (crate, file, names); file '' is any.
 TWINS = [
