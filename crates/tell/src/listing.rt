@@ -124,6 +124,7 @@ pub struct Listing<'a> {
 }
 
 // A line of the listing: the slot's number and bytes, the function and slot that it is a copy of, and its line record.
+// No longer than bark's own: a clause, since any caller's bytes may be lent.
 pub fn row(listing: Listing, slot: usize) -> Sentence
     requires { (8 * slot + 8 ≤ length listing.image.now) × (length listing.image.now ≤ own_most) }
     ensures { RowOf listing.entry.own listing.entry.lines.now slot (u32_at little listing.entry.image.now (8 * slot))
