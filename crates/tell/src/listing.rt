@@ -20,6 +20,7 @@ const PIECE_START: usize = 4;
 
 // The last of the records from `from` to `end`, of `size` bytes each, that stands at or before a slot: its own is at `key`. For
 // pieces and line records alike, as the definition is.
+// A loop and no rev().find(..): the library has lemmas on `find` over a range and over a reversed slice, and none over a reversed range.
 #[tactic(auto, unfolding(crate::specs::Listing::last_at))]
 pub fn last_at(
     records: &[u8],
