@@ -1,7 +1,7 @@
 // Files from a reader. A tables file: eight u32 lengths, then the tables 1 to 8, held as files.rt of tell says. An image file: three u32
 // lengths, then the three runs. A pieces file: rows, and nothing else.
 // Each promises that what was lent keeps its length: a buffer that is written to says so itself. File and table 6 are two buffers, since
-// the map step writes to the second while it reads the first.
+// the map step writes to the second while it reads the first. That the lengths are there is a clause, as in files.rt of tell.
 ghost use Rattle.std.specs.Prelude.{◌≡◌, true, ◌≤◌, ◌<◌, length, IfOk, Ok};
 ghost use Rattle.clerk.specs.Status.{is_end};
 ghost use Rattle.clerk.specs.Filled.{Filled, most_of, unread_of};
@@ -212,6 +212,7 @@ pub fn finish<R: io::Read + Drop>(mut reader: R) -> Result<(), Unread>
 }
 
 // Run i of an image, of at most so many bytes.
+// What it shares with read_table is fill and unread_of: a run has another kind of lengths and a buffer of its own.
 fn read_run(
     reader: &mut impl io::Read,
     lengths: &[u8],
@@ -228,6 +229,7 @@ fn read_run(
 }
 
 // All of an image file, to its end. `lengths` then has its three lengths.
+// Three runs and no Image: as at read_table, its contract would have to say that it is given back with the same three.
 pub fn read_image<R: io::Read + Drop>(
     mut reader: R,
     lengths: &mut [u8; IMAGE_LENGTHS],

@@ -16,6 +16,7 @@ use rules::{Image, Places, Program, Refusal, Table};
 use tell::files::{names, program, table};
 
 // A tables file as it is held, with table 6 beside it.
+// The root stands beside it in what takes it: it is no part of the file, and the library's entries take it beside the tables.
 #[derive(Clone, Copy)]
 pub struct Held<'a> {
     pub file: &'a [u8],

@@ -70,6 +70,8 @@ fn fail(rt: &impl Eprint, what: &[u8], why: io::Error) {
 }
 
 // Standard output took the words, or it is said that it did not.
+// That it ends well or for want of output is a clause here, in listing.rt and in writing.rt: an error type of one case would be turned
+// into Stop at each `?`.
 pub(crate) fn ended(rt: &impl Eprint, written: io::Result<()>) -> Result<(), Stop>
     ensures { either 0 4 (status_in result) ≡ true }
 {
@@ -146,6 +148,7 @@ pub fn complain(rt: &impl Eprint, file: usize, what: usize) {
 }
 
 // A call on a file failed: why, and what that means.
+// Path, file, what and why are read once each: a struct of them would be built at each call.
 pub fn failed(rt: &impl Eprint, path: &[u8], file: usize, what: usize, why: io::Error) {
     fail(rt, path, why);
     complain(rt, file, what);

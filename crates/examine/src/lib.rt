@@ -30,6 +30,7 @@ pub mod sizes; // sizes.rt: whole rows, within the limits
 pub mod slots; // slots.rt: slots against their sources
 
 // Piece k, whose records should stand from `funcs` and from `lines` on in the image.
+// The list stays beside what is shown: check_root and check_tiles take it alone, check_records and check_over the other.
 fn check_piece(
     names: Names,
     program: Program,

@@ -51,6 +51,7 @@ impl FuncRecord {
 }
 
 // A record of table 8.
+// A type of its own: it has two fields more and moves by its first line's slot. What it shares with FuncRecord is check_run.
 #[derive(Clone, Copy, PartialEq, Eq)]
 struct LineRecord {
     slot: u32,

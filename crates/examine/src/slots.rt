@@ -130,6 +130,7 @@ impl Compared<'_> {
 }
 
 // No relocation, and no call's opcode.
+// Room for the slot is a clause, as insn's readers have it.
 fn is_plain(instructions: &[u8], at: Slot, rel: Option<usize>) -> bool
     requires { slot_size * at.0 + slot_size ≤ length instructions.now }
     ensures { result ≡ is_plain rel (slot_in little instructions.now at.0) }
@@ -138,6 +139,7 @@ fn is_plain(instructions: &[u8], at: Slot, rel: Option<usize>) -> bool
 }
 
 // What the link makes of a slot: `resolve`, with a short way for most.
+// (Row, first and slot as resolve has them.)
 fn meaning_of(
     names: Names,
     instructions: &[u8],

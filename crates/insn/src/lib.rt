@@ -14,6 +14,7 @@ use wire::{i16_at, i32_at, put_i32, u32_at};
 
 pub mod kinds; // kinds.rt: what each opcode does to the walk
 
+// By name, one for each kind of number: document 01 asks for named conversions.
 pub fn slot_at(n: u32) -> Slot
     ensures { result.0 ≡ n }
 {
@@ -111,6 +112,7 @@ pub fn start_of(slot: Slot) -> usize
 
 // From here on bytes and slot are lent side by side, with one fact of both: docs/CLAIMS.md names these functions, so a type with an invariant
 // may not ask it in their place.
+// A reader for each field by its name, one expression each: they differ in place, width and half of a byte, so one over these would be no plainer.
 pub fn opcode(code: &[u8], slot: Slot) -> u8
     requires { slot_size * slot.0 + slot_size ≤ length code.now }
     ensures { result ≡ (slot_in little code.now slot.0).opcode }

@@ -107,6 +107,7 @@ fn by_data(
 }
 
 // The symbol's number, section and address come from two tables and are used once each: a struct of them would be no plainer.
+// That the address is below 2^48 is what insn's value asks.
 fn by_map(
     maps: &[u8],
     symbol: u32,

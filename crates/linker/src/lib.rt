@@ -30,6 +30,7 @@ pub struct State {
 }
 
 // A call, or a reference, to the function that starts there: the flag is `pointed_to`'s.
+// Room for the slot is a clause, as insn's readers have it.
 fn point(image: &mut [u8], here: Slot, start: Slot, reference: bool)
     requires { (slot_size * here.0 + slot_size ≤ length image.old)
         × ((start.0 < most_image_slots) × (here.0 < most_image_slots)) }
@@ -160,6 +161,7 @@ pub struct Linked {
 
 // Over checked tables, into outputs that are zero. A refusal leaves them to be wiped. The outputs come as slices and not as an Image: that
 // what they hold are bytes is known of a slice that is lent, and not of one in a struct.
+// Not link_function: the lines of the root are not looked at, its records stay as they stand, and its start, 0, is not kept.
 fn link_checked(
     names: Names,
     program: Program,

@@ -35,6 +35,7 @@ fn end_of(functions: &[u8], row: usize) -> ByteOffset
 }
 
 // The rows of table 4 that are of the function `row`.
+// Its clauses are those of what it reads, as at end_of.
 fn relocations_of(names: Names, row: usize) -> Range<usize>
     requires { Sound Functions names.functions.now × Sound Relocations names.relocations.now × (row < whole_rows Functions names.functions.now) }
     ensures { RelocationsOf names.entry.functions.now names.entry.relocations.now row result.start result.end }
@@ -97,6 +98,7 @@ fn apply(instructions: &mut [u8], change: Change)
 }
 
 // How many were rewritten: 0 or 1.
+// (Row, first and k as judge has them.)
 fn rewrite_one(
     names: Names,
     maps: &[u8],

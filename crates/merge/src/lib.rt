@@ -73,6 +73,7 @@ pub fn part_of(functions: &[u8], row: usize) -> Used
     part
 }
 
+// One column of two Useds, with its limits.
 fn fits(used: u32, more: u32, bytes: usize, size: usize, most: usize) -> bool
     requires { 0 < size }
     ensures { result ≡ leb (used + more) (min (bytes / size) most) }
@@ -82,6 +83,7 @@ fn fits(used: u32, more: u32, bytes: usize, size: usize, most: usize) -> bool
 }
 
 // Whether a row's part fits behind what is used, of outputs of so many bytes.
+// Three lengths and no Image: docs/CLAIMS.md names it, and a caller need have no buffers.
 #[tactic(auto, unfolding(crate::specs::Merge::room_bytes))]
 pub fn has_room(
     functions: &[u8],
@@ -117,6 +119,7 @@ pub fn has_room(
 }
 
 // Whether a line record lies before the slot `origin`, or `slots` slots after it or more.
+// Room for row k is a clause, as the readers of rows have it.
 fn is_stray(line_info: &[u8], k: usize, origin: u32, slots: u32) -> bool
     requires { row_size LineInfo * k + row_size LineInfo ≤ length line_info.now }
     ensures { result ≡ not (stays slots origin (line_info_row little line_info.now k)) }
@@ -141,6 +144,7 @@ pub fn stray_line(functions: &[u8], line_info: &[u8], row: usize, first: u32) ->
 }
 
 // Rows, where wire's copy counts bytes.
+// Buffer and place side by side, as wire's stores have them.
 fn copy_rows(size: usize, table: &[u8], first: u32, count: u32, out: &mut [u8], at: u32)
     requires { Copyable size table.now first count out.old at }
     ensures copied { out.new ≡ splice out.old (size * at) (take (size * count) (drop (size * first) table.now)) }
@@ -202,6 +206,7 @@ fn link_line_info(line_info: &[u8], part: Used, more: Used, out: &mut [u8], used
 }
 
 // A function after the others: its slots, and its records moved to where it starts. Its part begins there in the tables.
+// used, row and part: where it goes, which it is and where it begins (as at link_func_info), here and in begin.
 pub fn extend(
     functions: &[u8],
     program: Program,

@@ -29,6 +29,7 @@ const IMAGE: usize = 1024;
 const FRAMES: usize = 4;
 
 // Why the objects end.
+// Each program has ends of its own: replay tells a case that is bad.
 #[derive(Clone, Copy, Debug)]
 enum Stop {
     // no object is left, or one is cut short or does not fit

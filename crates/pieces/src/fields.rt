@@ -1,4 +1,5 @@
-// The fields of row k of a list: a reader for each by its name, as rows has them.
+// The fields of row k of a list: a reader for each by its name, as rows has them; bytes and row side by side, and room for the row as a
+// clause, here and in tiles.rt and order.rt.
 ghost use Rattle.std.specs.Prelude.{◌≡◌, ◌+◌, ◌*◌, ◌≤◌, length};
 ghost use Rattle.rules.specs.Pieces.{piece_size, piece_row, piece_start};
 

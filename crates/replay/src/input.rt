@@ -53,6 +53,7 @@ pub const LINES: usize = 66_000;
 pub const PLACE_BYTES: usize = 16;
 
 // Why a run of cases ends.
+// paths has ends of its own, without a bad case.
 #[derive(Clone, Copy, Debug)]
 pub enum Stop {
     // no case is left
@@ -193,6 +194,7 @@ pub fn read_header(input: &mut impl io::Read) -> Result<Header, Stop>
 }
 
 // The n bytes that stand after the tables of a held file, none where it has fewer.
+// That the lengths are there is a clause, as in files.rt of tell.
 pub fn data(file: &[u8], n: usize) -> &[u8]
     requires { 32 ≤ length file.now }
     ensures { result.now ≡ data_in file.now n }
@@ -204,6 +206,7 @@ pub fn data(file: &[u8], n: usize) -> &[u8]
 }
 
 // A case after its header: the tables, and after them the reader's data. It is bad where it does not fit, or the input ends before.
+// Two buffers, as clerk's reading has them.
 pub fn read_case(
     input: &mut impl io::Read,
     header: &Header,

@@ -12,6 +12,7 @@ use clerk::steps::Held;
 use rules::{Image, Table};
 use tell::files::{names, program, table};
 
+// By the entries that C calls, which tell numbers and places: clerk's steps give a Result. So is map_step.
 pub fn link(held: Held, root: u32, image: &mut Image, places: &mut [u8]) -> u32
     ensures told { LinkTold
         places.old

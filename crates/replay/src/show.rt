@@ -20,6 +20,7 @@ fn checksum(bytes: &[u8]) -> u32
 }
 
 // Bytes, in hexadecimal.
+// paths has this loop too: a crate for its three lines would be no plainer.
 #[derive(Clone, Copy)]
 struct Hex<'a>(&'a [u8]);
 

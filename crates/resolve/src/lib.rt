@@ -196,6 +196,7 @@ pub fn decide(
 }
 
 // What the link makes of a slot. None: it is copied as it stands.
+// Row, first and slot are counters of the caller's loop: a struct of them would be built for each slot, to be taken apart here.
 pub fn resolve(
     names: Names,
     instructions: &[u8],

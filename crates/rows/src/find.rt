@@ -1,5 +1,7 @@
 // The first row of a checked table that has the numbers asked for. A search is `find` over row numbers, by the test of one row; that
 // the table was checked (`Sound`) is asked of the bytes, since docs/CLAIMS.md names these functions and their callers hold bytes.
+// Section and address stay two parameters: docs/CLAIMS.md names the searches by them, and an address is an i64 that may lie outside where an
+// offset is a ByteOffset. That row k is there is asked by the tests, as by the readers (fields.rt).
 ghost use Rattle.std.specs.Prelude.{◌≡◌, ◌+◌, ◌*◌, ◌≤◌, length};
 ghost use Rattle.rules.specs.declared.Table.TheVariants.{Code, Symbols, Functions, Relocations, Maps};
 ghost use Rattle.rules.specs.Rows.{row_size, whole_rows};
@@ -28,6 +30,7 @@ fn is_function(t: &[u8], k: usize, home: u32, address: i64) -> bool
     same_place(section, function_address(t, k), home, target)
 }
 
+// This and the next hold a row against a place, by equality and by order (order.rt): a closure for the one call that differs would be no plainer.
 pub fn is_relocation(t: &[u8], k: usize, home: u32, offset: ByteOffset) -> bool
     requires { row_size Relocations * k + row_size Relocations ≤ length t.now }
     ensures { result ≡ relocation_matches t.now home offset.0 k }

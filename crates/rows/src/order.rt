@@ -1,6 +1,6 @@
 // Two numbers of a row as a pair: a section, and an address or an offset in it.
 // Bools joined by & and |, as the definitions join them (docs/DECISIONS.md), in place of a tuple's order; the two
-// places as numbers, which `eqb` and `below` are over.
+// places as numbers, which `eqb` and `below` are over. Four numbers: two come from a row's readers and two from the caller's hand.
 ghost use Rattle.std.specs.Prelude.{◌≡◌, ◌&&◌, eqb};
 ghost use Rattle.rules.specs.Rows.{below};
 

@@ -12,17 +12,17 @@ use crate::limits::{
 
 pub mod limits; // limits.rt: sizes and limits
 
-// Document 01's eight tables, in its order.
+// Document 01's eight tables, by its numbers.
 #[derive(Clone, Copy, PartialEq, Eq)]
 pub enum Table {
-    Code,
-    Symbols,
-    Functions,
-    Relocations,
-    Maps,
-    Instructions,
-    FuncInfo,
-    LineInfo,
+    Code = 1,
+    Symbols = 2,
+    Functions = 3,
+    Relocations = 4,
+    Maps = 5,
+    Instructions = 6,
+    FuncInfo = 7,
+    LineInfo = 8,
 }
 
 impl Table {
@@ -61,20 +61,12 @@ impl Table {
     pub fn number(self) -> u32
         ensures { result ≡ table_number self }
     {
-        match self {
-            Table::Code => 1,
-            Table::Symbols => 2,
-            Table::Functions => 3,
-            Table::Relocations => 4,
-            Table::Maps => 5,
-            Table::Instructions => 6,
-            Table::FuncInfo => 7,
-            Table::LineInfo => 8,
-        }
+        self as u32
     }
 }
 
-// Tables 1 to 4 as they are lent: what a slot can name.
+// Tables 1 to 4 as they are lent: what a slot can name. Apart from Program, from maps and from table 6: the map step writes to table 6 while
+// it reads these, and a link sees no maps.
 #[derive(Clone, Copy)]
 pub struct Names<'a> {
     pub code: &'a [u8],
@@ -91,7 +83,7 @@ pub struct Program<'a> {
     pub line_info: &'a [u8],
 }
 
-// The same as a link's three outputs.
+// The same as a link's three outputs. Two types, since none is generic over how its slices are lent.
 #[derive(Drop)]
 pub struct Image<'a> {
     pub slots: &'a mut [u8],

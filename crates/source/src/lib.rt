@@ -49,6 +49,7 @@ pub fn first_slot(functions: &[u8], row: usize) -> Slot
 }
 
 // The row that a call at this slot enters.
+// (Row, first and slot as resolve has them, here and in move_at.)
 pub fn callee(
     names: Names,
     instructions: &[u8],

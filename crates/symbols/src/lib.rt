@@ -25,6 +25,7 @@ pub struct Symbol {
 const PADDING: usize = 7;
 
 // Here and not beside wire's stores: nothing else writes a u64.
+// Buffer and place side by side, as wire's stores have them.
 fn put_u64(out: &mut [u8], at: usize, v: u64)
     requires { at + 8 ≤ length out.old }
     ensures { out.new ≡ splice out.old at (bytes8 v) }
@@ -33,6 +34,7 @@ fn put_u64(out: &mut [u8], at: usize, v: u64)
 }
 
 // Row k of the byte table. Field by field: a row made first and then copied in is no plainer.
+// Room for row k is a clause, as the readers of rows have it.
 pub fn put_row(out: &mut [u8], k: usize, s: Symbol)
     requires { row_size Symbols * k + row_size Symbols ≤ length out.old }
     ensures { out.new ≡ splice out.old (row_size Symbols * k) (row_bytes s) }

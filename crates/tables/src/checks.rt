@@ -54,6 +54,8 @@ pub fn or_no_root(functions: &[u8], root: u32) -> Result<(), Refusal>
     Err(refusal(Cause::NoRoot, 0, 0))
 }
 
+// Two lists, here and in check_link, each in the order of its definition (map_step_refusal, link_refusal). What both have stands in two runs of
+// four lines: functions for them would have contracts longer than the lines.
 pub fn check_map_step(names: Names, maps: &[u8], instructions: &[u8]) -> Result<(), Refusal>
     ensures { refusal_in result ≡ map_step_refusal (lent_maps names.entry maps.now instructions.now) }
 {

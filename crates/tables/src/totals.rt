@@ -8,6 +8,7 @@ use rules::Table;
 use rules::limits::FUNCTION_SIZE;
 
 // By the table, whose column it is: a match says which.
+// Room for row k is a clause, as the readers of rows have it.
 fn count_of(table: Table, functions: &[u8], k: usize) -> u32
     requires { row_size Functions * k + row_size Functions ≤ length functions.now }
     ensures { result ≡ count_of table functions.now k }

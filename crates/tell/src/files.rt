@@ -62,6 +62,7 @@ fn held(file: &[u8], i: usize) -> u32
 }
 
 // Where table i + 1 begins. By its place, since the end of the last is asked for too.
+// A sum of its own: the addend leaves table 6 out, and its bound is of lengths (as merge's and source's are of rows).
 #[tactic(auto, unfolding(crate::specs::Files::start_of))]
 pub fn start_of(file: &[u8], i: usize) -> usize
     requires { (i ≤ 8) × (32 ≤ length file.now) }
@@ -121,6 +122,7 @@ pub fn program<'a>(file: &'a [u8], instructions: &'a [u8]) -> Program<'a>
 }
 
 // The lengths of an image's three runs, in their order.
+// No longer than bark's own: a clause, since any caller's bytes may be lent.
 pub fn image_lengths(image: Program) -> [u8; IMAGE_LENGTHS]
     requires { (length image.instructions.now ≤ own_most) × ((length image.func_info.now ≤ own_most) × (length image.line_info.now ≤ own_most)) }
     ensures { (length result ≡ 12) × (result ≡ places_in 12

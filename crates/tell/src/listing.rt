@@ -20,6 +20,7 @@ const PIECE_START: usize = 4;
 
 // The last of the records from `from` to `end`, of `size` bytes each, that stands at or before a slot: its own is at `key`. For
 // pieces and line records alike, as the definition is.
+// A loop and no rev().find(..): the library has lemmas on `find` over a range and over a reversed slice, and none over a reversed range.
 #[tactic(auto, unfolding(crate::specs::Listing::last_at))]
 pub fn last_at(
     records: &[u8],
@@ -124,6 +125,7 @@ pub struct Listing<'a> {
 }
 
 // A line of the listing: the slot's number and bytes, the function and slot that it is a copy of, and its line record.
+// No longer than bark's own: a clause, since any caller's bytes may be lent.
 pub fn row(listing: Listing, slot: usize) -> Sentence
     requires { (8 * slot + 8 ≤ length listing.image.now) × (length listing.image.now ≤ own_most) }
     ensures { RowOf listing.entry.own listing.entry.lines.now slot (u32_at little listing.entry.image.now (8 * slot))

@@ -72,6 +72,7 @@ pub const ROOM: [u32; 8] = [
 pub const BOTH: usize = FILE + TABLE_LENGTHS + INSTRUCTIONS + PATH + WORD + LINE;
 
 // What link holds. The image's lengths are there as they are made and as they are written.
+// One for each subcommand, as docs/CLAIMS.md names them: they add up other buffers, so there is no one sum.
 pub fn link_bytes() -> usize
     ensures { (result ≡ 62000) × (result ≤ own_most) }
 {

@@ -133,6 +133,7 @@ pub fn answer(told: Told, root: u32, wording: Wording) -> Sentence
 }
 
 // What is wrong with a file: the line that names it, and one with a number.
+// No of_part with blanks: the third line names no table, and the number stands where of_part has the table's.
 pub fn of_file(file: usize, what: usize, n: u32) -> Sentence
     ensures { (result.lines ≡ file ∷ what ∷ blank_line ∷ blank_line ∷ blank_line ∷ [])
         × (result.numbers ≡ 0 ∷ 0 ∷ 0 ∷ n ∷ 0 ∷ 0 ∷ 0 ∷ 0 ∷ 0 ∷ 0 ∷ 0 ∷ 0 ∷ 0 ∷ 0 ∷ 0 ∷ []) }

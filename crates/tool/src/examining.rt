@@ -21,6 +21,8 @@ struct Missing {
 }
 
 // What is shown, as the lengths cut it: they stand in a file that anybody may have made, so each is at most its buffer's.
+// linking.rt's placed cuts by counts of slots and records, and promises the lengths that are written: one over both would take the three
+// numbers and their units.
 fn shown<'a>(
     lengths: &[u8; IMAGE_LENGTHS],
     image: &'a [u8],

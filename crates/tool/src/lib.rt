@@ -29,6 +29,7 @@ fn count(rt: &impl Env) -> usize {
 }
 
 // What argument i asks for.
+// This and root are three lines each: one that takes the reader as a closure would be as long, with a clause on the closure.
 fn word(rt: &impl Env, i: usize) -> Option<Command> {
     let mut word = [0u8; WORD];
     let n = rt.arg(i, &mut word).unwrap_or(0);

@@ -60,6 +60,7 @@ fn placed<'a>(
 }
 
 // The image of an accepted link is written and listed. The list is a file of its own, where one is asked for.
+// No longer than bark's own: a clause, since any caller's bytes may be lent.
 fn write(
     rt: &(impl Env + Files + Print + Eprint),
     own: usize,

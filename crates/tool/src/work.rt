@@ -36,6 +36,7 @@ impl Task {
 }
 
 // Three steps with other arguments each: a closure handed down from lib.rt would be no plainer than its name.
+// File and table 6 are a Held only after the map step, which writes to table 6.
 fn with_maps(
     rt: &(impl Env + Files + Print + Eprint),
     task: Task,

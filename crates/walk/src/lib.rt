@@ -67,6 +67,7 @@ pub trait Ground {
         ensures { result ≡ is_some (sight self.now at) };
 }
 
+// The parts of the Here that it gives: of each call another has changed, so a Here made first would be no plainer.
 pub fn arrive<G: Ground>(ground: &G, at: G::Place, depth: usize, taken: usize) -> Stand<G::Place>
     ensures { result ≡ arrived_at (G.sight ground.now) at depth taken }
 {
@@ -88,6 +89,7 @@ pub fn frameless<G: Ground>(ground: &G, first: G::Place) -> Stand<G::Place>
     }
 }
 
+// Frames and answers are the caller's own buffers, one written and one read: a struct of them would be made for the entries alone.
 pub fn step<G: Ground>(
     ground: &G,
     frames: &mut [G::Place],
@@ -182,6 +184,7 @@ pub fn slot_in(at: i64, slots: u32) -> Option<usize>
 }
 
 // The slot that lies at `here` of some code, as slot `slot` of its function or image; a call as an image has it.
+// Room for the slot is a clause, as insn's readers have it.
 pub fn leads_at(code: &[u8], here: Slot, slot: Slot) -> Move<i64>
     requires { slot_size * here.0 + slot_size ≤ length code.now }
     ensures { move_of (Some result) ≡ leads_in (slot_in little code.now here.0) slot.0 }
