@@ -1,5 +1,5 @@
 // A line for each slot of the image, written out. The words are tell's. That the image is none longer than bark's own stays a clause: what is
-// lent here is any caller's.
+// lent here is any caller's. (The status: telling.rt.)
 ghost use Rattle.std.specs.Prelude.{◌≡◌, true, ◌≤◌, length};
 ghost use Rattle.clerk.specs.Status.{either, status_in};
 ghost use Rattle.tell.specs.Room.{own_most};

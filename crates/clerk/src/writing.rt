@@ -1,5 +1,5 @@
 // The files that a link writes: the image, three u32 lengths and then the three runs; and the list of its pieces, its rows as they are.
-// What is written is no longer than bark's own: a clause, since any caller's bytes may be lent.
+// What is written is no longer than bark's own: a clause, since any caller's bytes may be lent. (The status: telling.rt.)
 ghost use Rattle.std.specs.Prelude.{◌≡◌, true, ◌≤◌, length};
 ghost use Rattle.clerk.specs.Status.{either, status_in};
 ghost use Rattle.tell.specs.Room.{own_most};

@@ -110,7 +110,7 @@ pub fn start_of(slot: Slot) -> usize
     8 * slot.0 as usize
 }
 
-// From here on bytes and slot are lent side by side, with one fact of both: docs/CLAIMS.md names these functions, so a type with an invariant
+// From here on bytes and slot are lent side by side, with one fact of both: docs/CLAIMS.md names most of these functions, so a type with an invariant
 // may not ask it in their place.
 // A reader for each field by its name, one expression each: they differ in place, width and half of a byte, so one over these would be no plainer.
 pub fn opcode(code: &[u8], slot: Slot) -> u8

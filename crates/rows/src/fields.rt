@@ -1,5 +1,5 @@
 // The fields of row k, least byte first. A reader for each by its name: one over sizes and places would be no shorter, as each field has its clause.
-// Bytes and row are lent side by side: docs/CLAIMS.md names these readers, so a type with an invariant may not ask for the room in their place.
+// Bytes and row are lent side by side: docs/CLAIMS.md asks for a reader for each field and names five, so a type with an invariant may not ask for the room in their place.
 ghost use Rattle.std.specs.Prelude.{◌≡◌, ◌+◌, ◌*◌, ◌≤◌, length};
 ghost use Rattle.rules.specs.declared.Table.TheVariants.{Code, Symbols, Functions, Relocations, Maps, FuncInfo, LineInfo};
 ghost use Rattle.rules.specs.Bytes.{little};

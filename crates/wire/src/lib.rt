@@ -23,7 +23,7 @@ fn put_bytes<const N: usize>(out: &mut [u8], at: usize, bytes: [u8; N])
     out[at..at + N].copy_from_slice(&bytes);
 }
 
-// Bytes and place are lent side by side in what is public: docs/CLAIMS.md names these functions, so a type with an invariant may not ask for
+// Bytes and place are lent side by side in what is public: docs/CLAIMS.md names most of these functions, so a type with an invariant may not ask for
 // the room in their place. Each width is a line over the two above.
 pub fn u16_at(s: &[u8], at: usize) -> u32
     requires { at + 2 ≤ length s.now }
