@@ -132,7 +132,6 @@ impl Words {
         self.push(hex(b % 16));
     }
 
-    // Four bytes, the least first.
     // Four bytes, the least first. The flag is bytes_words'.
     #[tactic(auto, using(crate::proofs::Added::none, crate::proofs::Spelled::four, crate::proofs::Spelled::bytes_on, crate::proofs::Spelled::bytes_end))]
     fn push_bytes(&mut self, n: u32, spaced: bool)

@@ -20,7 +20,8 @@ struct Missing {
     why: Unread,
 }
 
-// What is shown, as the lengths cut it: they stand in a file that anybody may have made, so each is at most its buffer's.
+// What is shown, as the lengths cut it: they stand in a file that anybody may have made, so each is at most its buffer's; the
+// buffers are arrays, counted by tell's examine_bytes.
 // linking.rt's placed cuts by counts of slots and records, and promises the lengths that are written: one over both would take the three
 // numbers and their units.
 fn shown<'a>(

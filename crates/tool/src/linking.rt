@@ -37,7 +37,6 @@ fn own_lines(file: &[u8], root: u32) -> usize {
     }
 }
 
-// What was placed of the three outputs.
 // What was placed of the three outputs: parts of arrays of fixed size, since bark holds a counted number of bytes (tell, link_bytes) and no heap.
 fn placed<'a>(
     places: Places,
