@@ -11,7 +11,7 @@ use lib.IntN.{ℤ, pos, ◌+ℤ◌}
 use mir.Syntax.{w32, w64}
 use mir.Val.{to_z, of_z, SFits}
 use mir.ValLaws.{to_z-of_z}
-use Rattle.rules.specs.Object.{Insn, is_call, Named, nothing, unclear}
+use Rattle.rules.specs.Object.{Insn, is_call, Named, nothing, unclear, copied, decide}
 use Rattle.rules.specs.Bytes.{little}
 use Rattle.rules.specs.declared.SymbolKind as coded
 use Rattle.rules.specs.declared.SymbolKind.TheVariants.{Other, Text, Section}
@@ -37,6 +37,12 @@ bytes_from {z = z} f e = rw (to_z-of_z w32 z f, e)
 pub option_found : (o : Option ℕ) → option_of (found_of o) ≡ o
 option_found none = refl
 option_found (some k) = refl
+
+-- what names nothing is copied, if it is no call
+pub not_called : (wide : Bool) → decide false wide nothing ≡ copied
+unfolding decide
+not_called true = refl
+not_called false = refl
 
 module _ (code functions : List ℕ) where
   pub at_is : (home : ℕ) (address : ℤ) → function_at (targets code functions) home address ≡ or_missing (function_with functions home address)

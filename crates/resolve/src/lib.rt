@@ -210,11 +210,16 @@ pub fn resolve(
         (object.meaning (object_of (tables_of little (lent_code names.entry instructions.now))) row slot.0) }
 {
     let at = after(first, slot);
+    let is_call = insn_is_call(instructions, at);
+    match rel {
+        None if !is_call => return Ok(None), // most slots
+        _ => {}
+    }
     let slots = function_slots(names.functions, row);
     let end = after(first, slots);
     let named = by_relocation(names, instructions, row, slot, at, rel);
     decide(
-        insn_is_call(instructions, at),
+        is_call,
         is_wide_load(instructions, at, end),
         named,
         row as u32,

@@ -5,8 +5,9 @@ use Prim.Native.Nat.{ℕ}
 use native.Mathlib.Omega.{arith}
 use Rattle.rules.specs.declared.Refusal.{Refusal}
 use Rattle.rules.specs.Answers.{Reply, reply, refused_reply}
-use Rattle.rules.specs.Object.{nothing, function, missing, reference, call, unclear, Meaning, copied, refused, decide}
+use Rattle.rules.specs.Object.{function, missing, reference, call, unclear, Meaning, refused, decide}
 use Rattle.resolve.specs.Means.{Refuses}
+use Rattle.resolve.proofs.Targets.{not_called}
 use Rattle.std.specs.Prelude as prelude
 use Rattle.resolve.specs.declared.Unnamed.TheVariants.{Missing, UnknownSymbol, UnknownForm}
 use Rattle.resolve.proofs.decide.Goals.{in-Ok-Some+else-is_call-is_wide, in-Err-Missing+else-is_call-is_wide-2}
@@ -17,11 +18,6 @@ refuses : {row slot number : ℕ} {r : Refusal} {m : Meaning} → refused_reply 
 refuses {row} {slot} p e =
     let n = ap (λ (x : Reply). x.number) (sym p) in
     record { refusal = e ∙ ap refused n; places = p ∙ ap (λ (k : ℕ). reply k row slot 0) n }
-
-not_called : (wide : Bool) → decide false wide nothing ≡ copied
-unfolding decide
-not_called true = refl
-not_called false = refl
 
 always : (calls wide : Bool) (number : ℕ) → decide calls wide (unclear number) ≡ refused number
 unfolding decide

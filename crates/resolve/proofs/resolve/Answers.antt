@@ -1,6 +1,6 @@
 -- The slot of table 6 that is read is the row's, its end the row's end, and its relocation the one that is found.
 use mathlib.Core.Path.{◌≡◌, sym, ap, ◌∙◌, subst}
-use mathlib.Core.Bool.{Bool}
+use mathlib.Core.Bool.{Bool, false}
 use Prim.Native.Nat.{ℕ, ◌+◌}
 use native.Mathlib.Omega.{arith}
 use Rattle.rules.specs.Object.{is_call, decide}
@@ -11,6 +11,8 @@ use Rattle.rules.specs.Lent.{lent_code}
 use Rattle.rules.specs.Lookups.{read_row}
 use Rattle.insn.specs.Wide.{wide_load_in}
 use Rattle.resolve.specs.Means.{named_of, Means, option_of}
+use Rattle.std.specs.Prelude as prelude
+use Rattle.resolve.proofs.Targets.{not_call, not_called}
 use Rattle.resolve.proofs.Slots.{slots_low, first_low, end_inside, rel_within, meaning_is}
 use Rattle.resolve.proofs.resolve.Goals.{After-after-end}
 use Rattle.resolve.proofs.resolve.Goals as goal
@@ -38,9 +40,9 @@ by_relocation-named-requires c =
       rel_inside = rel_within c.requires;
     }
 
-pub insn_is_call-requires : goal.insn_is_call-requires
-insn_is_call-requires c =
-    omega (arith, end_inside c.requires, c.requires.slot_inside, at_is (goal.at.insn_is_call-requires c).After-after-end)
+pub insn_is_call-is_call-requires : goal.insn_is_call-is_call-requires
+insn_is_call-is_call-requires c =
+    omega (arith, end_inside c.requires, c.requires.slot_inside, c.after-at.ensures)
 
 pub is_wide_load-requires : goal.is_wide_load-requires
 is_wide_load-requires c =
@@ -52,7 +54,7 @@ returns c =
     let here = a.first.0 + a.slot.0 in
     subst (Means a.row a.slot.0 c.decide.result)
     (ap (λ (b : Bool). decide b c.is_wide_load.result (named_of c.by_relocation-named.result))
-    (c.insn_is_call.ensures ∙ ap (λ (k : ℕ). is_call (slot_in little a.instructions.now k)) (at_is (goal.at.returns c).After-after-end))
+    (c.insn_is_call-is_call.ensures ∙ ap (λ (k : ℕ). is_call (slot_in little a.instructions.now k)) (at_is (goal.at.returns c).After-after-end))
     ∙ ap (λ (b : Bool). decide (is_call (slot_in little a.instructions.now here)) b (named_of c.by_relocation-named.result))
     (c.is_wide_load.ensures ∙ ap (λ (k : ℕ). wide_load_in a.instructions.now k c.after-end.result.0) (at_is (goal.at.returns c).After-after-end) ∙ ap (wide_load_in a.instructions.now here) (end_is (goal.at.returns c).After-after-end))
     ∙ ap (decide (is_call (slot_in little a.instructions.now here)) (wide_load_in a.instructions.now here (a.first.0 + function_slots a.names.functions.now a.row)))
@@ -61,3 +63,18 @@ returns c =
     (read_row (relocation_row a.names.relocations.now) (option_of a.rel)) (function_row a.names.functions.now a.row) a.slot.0 (slot_in little a.instructions.now k)) (at_is (goal.at.returns c).After-after-end))
     ∙ sym (meaning_is c.requires))
     c.decide.ensures
+
+-- without a relocation, and no call: it names nothing
+pub returns-in-None : goal.returns-in-None
+returns-in-None c =
+    let a = c.args in
+    let here = a.first.0 + a.slot.0 in
+    let t = lent_code a.names a.instructions.now in
+    let i = slot_in little a.instructions.now here in
+    let wide = wide_load_in a.instructions.now here (a.first.0 + function_slots a.names.functions.now a.row) in
+    let plain = sym (c.insn_is_call-is_call.ensures ∙ ap (λ (k : ℕ). is_call (slot_in little a.instructions.now k)) c.after-at.ensures) ∙ c.if-not-is_call.true in
+    meaning_is c.requires
+    ∙ ap (λ (b : Bool). decide b wide (by_relocation (tables_of little t) (read_row (relocation_row a.names.relocations.now) (option_of a.rel)) (function_row a.names.functions.now a.row) a.slot.0 i)) plain
+    ∙ ap (λ (k : prelude.Option ℕ). decide false wide (by_relocation (tables_of little t) (read_row (relocation_row a.names.relocations.now) (option_of k)) (function_row a.names.functions.now a.row) a.slot.0 i)) c.in-None.is
+    ∙ ap (decide false wide) (not_call t a.row a.slot.0 i plain)
+    ∙ not_called wide
