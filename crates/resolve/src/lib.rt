@@ -211,9 +211,8 @@ pub fn resolve(
 {
     let at = after(first, slot);
     let is_call = insn_is_call(instructions, at);
-    match rel {
-        None if !is_call => return Ok(None), // most slots
-        _ => {}
+    if rel.is_none() && !is_call {
+        return Ok(None); // most slots
     }
     let slots = function_slots(names.functions, row);
     let end = after(first, slots);

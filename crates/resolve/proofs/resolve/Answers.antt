@@ -1,6 +1,6 @@
 -- The slot of table 6 that is read is the row's, its end the row's end, and its relocation the one that is found.
-use mathlib.Core.Path.{◌≡◌, sym, ap, ◌∙◌, subst}
-use mathlib.Core.Bool.{Bool, false}
+use mathlib.Core.Path.{◌≡◌, refl, sym, ap, ◌∙◌, subst}
+use mathlib.Core.Bool.{Bool, false, not}
 use Prim.Native.Nat.{ℕ, ◌+◌}
 use native.Mathlib.Omega.{arith}
 use Rattle.rules.specs.Object.{is_call, decide}
@@ -64,9 +64,13 @@ returns c =
     ∙ sym (meaning_is c.requires))
     c.decide.ensures
 
+none_is : (o : prelude.Option ℕ) → prelude.is_some o ≡ false → o ≡ prelude.None
+none_is prelude.None e = refl
+none_is (prelude.Some k) e = let z : ◌≡◌ {A = ℕ} 0 1 = cc in absurd (omega arith)
+
 -- without a relocation, and no call: it names nothing
-pub returns-in-None : goal.returns-in-None
-returns-in-None c =
+pub returns-then-not-is_call : goal.returns-then-not-is_call
+returns-then-not-is_call c =
     let a = c.args in
     let here = a.first.0 + a.slot.0 in
     let t = lent_code a.names a.instructions.now in
@@ -75,6 +79,6 @@ returns-in-None c =
     let plain = sym (c.insn_is_call-is_call.ensures ∙ ap (λ (k : ℕ). is_call (slot_in little a.instructions.now k)) c.after-at.ensures) ∙ c.if-not-is_call.true in
     meaning_is c.requires
     ∙ ap (λ (b : Bool). decide b wide (by_relocation (tables_of little t) (read_row (relocation_row a.names.relocations.now) (option_of a.rel)) (function_row a.names.functions.now a.row) a.slot.0 i)) plain
-    ∙ ap (λ (k : prelude.Option ℕ). decide false wide (by_relocation (tables_of little t) (read_row (relocation_row a.names.relocations.now) (option_of k)) (function_row a.names.functions.now a.row) a.slot.0 i)) c.in-None.is
+    ∙ ap (λ (k : prelude.Option ℕ). decide false wide (by_relocation (tables_of little t) (read_row (relocation_row a.names.relocations.now) (option_of k)) (function_row a.names.functions.now a.row) a.slot.0 i)) (none_is c.args.rel (c.is_none.ensures ∙ ap not c.if-is_none.true))
     ∙ ap (decide false wide) (not_call t a.row a.slot.0 i plain)
     ∙ not_called wide
