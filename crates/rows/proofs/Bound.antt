@@ -14,44 +14,19 @@ use Rattle.std.specs.List.Sorted.{IsPartitionedBy, IsPartitionPoint}
 use Rattle.rules.specs.Bytes.{little, u32_at, u64_at}
 use Rattle.rules.specs.declared.Table.TheVariants.{Relocations}
 use Rattle.rules.specs.Rows.{row_size, whole_rows, relocation_section, relocation_offset}
-use Rattle.rules.proofs.Writing.{u32_same}
 use Rattle.rules.specs.Lookups.{Sound, RisingPair, relocations_before}
 use Rattle.rules.proofs.Searches.{before_chain}
 use Rattle.rules.proofs.Passed.{below_before, before_below, relocations_rise}
 use Rattle.rules.proofs.Halving as halving
 use Rattle.rows.specs.Matches.{relocation_is_before}
+use Rattle.rows.proofs.Chunks.{rows_length, row_is, before_row}
 
 -- ---- the rows as partition_point looks at them, each its own bytes
 abbrev pub rows_of : List ℕ → List (List ℕ)
 rows_of t = first_chunks (row_size Relocations) (whole_rows Relocations t) t
 
-rows_length : (n : ℕ) (t : List ℕ) → length (first_chunks (row_size Relocations) n t) ≡ n
-rows_length zero t = refl
-rows_length (suc n) t = ap suc (rows_length n (drop (row_size Relocations) t))
-
-row_is : (n k : ℕ) (t d : List ℕ) → k < n → get_or (first_chunks (row_size Relocations) n t) k d ≡ take (row_size Relocations) (drop (row_size Relocations * k) t)
-row_is zero k t d l = absurd (omega arith)
-row_is (suc n) zero t d l = refl
-row_is (suc n) (suc k) t d l =
-    let e : row_size Relocations + row_size Relocations * k ≡ row_size Relocations * suc k = omega arith in
-    row_is n k (drop (row_size Relocations) t) d (omega arith)
-    ∙ ap (take (row_size Relocations)) (drop-drop (row_size Relocations * k) (row_size Relocations) t)
-    ∙ ap (λ m. take (row_size Relocations) (drop m t)) e
-
-word_is : (t : List ℕ) (k p q : ℕ) → p + 4 ≤ row_size Relocations → row_size Relocations * k + p ≡ q
-    → u32_at little (take (row_size Relocations) (drop (row_size Relocations * k) t)) p ≡ u32_at little t q
-word_is t k p q l e =
-    u32_same little t (take (row_size Relocations) (drop (row_size Relocations * k) t)) q p (λ j m.
-    let at : row_size Relocations * k + (p + j) ≡ q + j = omega (arith, e) in
-    get_or-take (row_size Relocations) (drop (row_size Relocations * k) t) (p + j) 0 (omega (arith, m)) ∙ get_or-drop (row_size Relocations * k) t (p + j) 0 ∙ ap (λ i. get_or t i 0) at)
-
-row_before : (t : List ℕ) (home offset k : ℕ) → relocation_is_before (take (row_size Relocations) (drop (row_size Relocations * k) t)) home offset 0 ≡ relocation_is_before t home offset k
-unfolding relocation_section relocation_offset u64_at
-row_before t home offset k =
-    rw (word_is t k 0 (row_size Relocations * k) (omega arith) (omega arith), word_is t k 8 (row_size Relocations * k + 8) (omega arith) refl, word_is t k 12 (row_size Relocations * k + 8 + 4) (omega arith) (omega arith)) refl
-
 before_is : (t d : List ℕ) (home offset k : ℕ) → k < whole_rows Relocations t → relocation_is_before (get_or (rows_of t) k d) home offset 0 ≡ relocation_is_before t home offset k
-before_is t d home offset k l = ap (λ row. relocation_is_before row home offset 0) (row_is (whole_rows Relocations t) k t d l) ∙ row_before t home offset k
+before_is t d home offset k l = ap (λ row. relocation_is_before row home offset 0) (row_is (row_size Relocations) (whole_rows Relocations t) k t d l) ∙ before_row t k home offset
 
 module _ (t : List ℕ) (sound : Sound Relocations t) (home offset : ℕ) where
   falls : (i j : ℕ) → i < j → j < whole_rows Relocations t → relocation_is_before t home offset j ≡ true → relocation_is_before t home offset i ≡ true
@@ -69,7 +44,7 @@ module _ (t : List ℕ) (sound : Sound Relocations t) (home offset : ℕ) where
   parted i j d l h e = go (eq-or-lt_of_le l)
     where
       inside : j < whole_rows Relocations t
-      inside = omega (arith, rows_length (whole_rows Relocations t) t)
+      inside = omega (arith, rows_length (row_size Relocations) (whole_rows Relocations t) t)
 
       there : relocation_is_before t home offset j ≡ true
       there = sym (before_is t d home offset j inside) ∙ e
@@ -82,7 +57,7 @@ module _ (t : List ℕ) (sound : Sound Relocations t) (home offset : ℕ) where
       → IsPartitionPoint (λ row. relocation_is_before row home offset 0 ≡ true) (λ row. relocation_is_before row home offset 0 ≡ false) (rows_of t) r
       → (r ≡ relocations_before t home offset) × (r ≤ whole_rows Relocations t)
   point_is r l point =
-      let n = rows_length (whole_rows Relocations t) t in
+      let n = rows_length (row_size Relocations) (whole_rows Relocations t) t in
       let h : r ≤ whole_rows Relocations t = omega (arith, n) in (
         met r h
             (λ j g. sym (before_is t [] home offset j (omega (arith, g, h))) ∙ point.0 j [] (omega arith) g)

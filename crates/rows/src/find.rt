@@ -1,5 +1,5 @@
-// The first row of a checked table that has the numbers asked for. A search is `find` over row numbers, by the test of one row; that
-// the table was checked (`Sound`) is asked of the bytes, since docs/CLAIMS.md names these functions and their callers hold bytes.
+// The first row of a checked table that has the numbers asked for. A search is `position` over the rows as arrays, by the test of one row, which
+// stands at 0 in its own bytes: by row numbers each row costs more. That the table was checked (`Sound`) is asked of the bytes, since docs/CLAIMS.md names these functions and their callers hold bytes.
 // Section and address stay two parameters: docs/CLAIMS.md names the searches by them, and an address is an i64 that may lie outside where an
 // offset is a ByteOffset. That row k is there is asked by the tests, as by the readers (fields.rt).
 ghost use Rattle.std.specs.Prelude.{◌≡◌, ◌+◌, ◌*◌, ◌≤◌, length};
@@ -75,28 +75,34 @@ pub fn is_code(t: &[u8], home: u32) -> bool
     requires { Sound Code t.now }
     ensures { result ≡ is_code_section t.now home }
 {
-    (0..t.len() / CODE_SIZE).any(|k| code_section(t, k) == home)
+    let (rows, _) = t.as_chunks::<CODE_SIZE>();
+    rows.iter().any(|row| code_section(row, 0) == home)
 }
 
 pub fn find_symbol(t: &[u8], index: u32) -> Option<usize>
     requires { Sound Symbols t.now }
     ensures { result ≡ found_of (symbol_with t.now index) }
 {
-    (0..t.len() / SYMBOL_SIZE).find(|k| symbol_index(t, *k) == index)
+    let (rows, _) = t.as_chunks::<SYMBOL_SIZE>();
+    rows.iter().position(|row| symbol_index(row, 0) == index)
 }
 
 pub fn find_function(t: &[u8], home: u32, address: i64) -> Option<usize>
     requires { Sound Functions t.now }
     ensures { result ≡ found_of (function_with t.now home address) }
 {
-    (0..t.len() / FUNCTION_SIZE).find(|k| is_function(t, *k, home, address))
+    let (rows, _) = t.as_chunks::<FUNCTION_SIZE>();
+    rows.iter()
+        .position(|row| is_function(row, 0, home, address))
 }
 
 pub fn find_relocation(t: &[u8], home: u32, offset: ByteOffset) -> Option<usize>
     requires { Sound Relocations t.now }
     ensures { result ≡ found_of (relocation_with t.now home offset.0) }
 {
-    (0..t.len() / RELOCATION_SIZE).find(|k| is_relocation(t, *k, home, offset))
+    let (rows, _) = t.as_chunks::<RELOCATION_SIZE>();
+    rows.iter()
+        .position(|row| is_relocation(row, 0, home, offset))
 }
 
 // How many relocations stand before (home, offset).
@@ -116,12 +122,14 @@ pub fn find_map_symbol(t: &[u8], symbol: u32) -> Option<usize>
     requires { Sound Maps t.now }
     ensures { result ≡ found_of (map_with_symbol t.now symbol) }
 {
-    (0..t.len() / MAP_SIZE).find(|k| is_map_with(t, *k, symbol))
+    let (rows, _) = t.as_chunks::<MAP_SIZE>();
+    rows.iter().position(|row| is_map_with(row, 0, symbol))
 }
 
 pub fn find_map_section(t: &[u8], home: u32) -> Option<usize>
     requires { Sound Maps t.now }
     ensures { result ≡ found_of (map_of_section t.now home) }
 {
-    (0..t.len() / MAP_SIZE).find(|k| is_map_of(t, *k, home))
+    let (rows, _) = t.as_chunks::<MAP_SIZE>();
+    rows.iter().position(|row| is_map_of(row, 0, home))
 }

@@ -1,20 +1,26 @@
 -- The first row that passes the test of one row.
-use mathlib.Core.Path.{◌≡◌}
-use mathlib.Core.Bool.{true, false}
+use mathlib.Core.Path.{◌∙◌}
+use mathlib.Core.Bool.{Bool}
+use mathlib.Core.List.{List}
+use Prim.Native.Nat.{ℕ}
 use borrow.Author.Rules.{rules}
 use borrow.Author.Tests.{tests}
-use Rattle.std.proofs.lemmas.Iterator.{first_from_Range}
+use Rattle.std.proofs.lemmas.Iterator.{YieldsList-from_slice}
+use Rattle.std.proofs.lemmas.Iterator.Adapters.{position_from-zero}
+use Rattle.std.proofs.lemmas.Iterator.Search.{position_from_yields_List}
 use Rattle.rules.specs.declared.Table.TheVariants.{Symbols}
-use Rattle.rules.specs.Rows.{whole_rows}
+use Rattle.rules.specs.Rows.{row_size, whole_rows}
 use Rattle.rules.specs.Lookups.{symbol_with}
 use Rattle.rows.specs.Matches.{symbol_matches}
-use Rattle.rows.proofs.Scan.{first_is}
+use Rattle.rows.proofs.Chunks.{position_is, symbol_row}
 use Rattle.rows.proofs.find.find_symbol.Goals as goal
 
 pub returns : goal.returns
 unfolding symbol_with
 returns c =
     let a = c.args in
-    let test = symbol_matches a.t.now a.index in
-    first_is test (whole_rows Symbols a.t.now) c.find.result
-    (first_from_Range _ _ _ c.find.result (λ k. true ≡ test k) (λ k. false ≡ test k) c.find.ensures.ran (λ x q k. search (rules, tests)) (λ x q k. search (rules, tests)))
+    let n = whole_rows Symbols a.t.now in
+    let test : List ℕ → Bool = λ row. symbol_matches row a.index 0 in
+    position_from_yields_List test _ _ c.position.result c.position.ensures.ran (YieldsList-from_slice _ (c.iter.ensures.rest ∙ c.as_chunks.ensures.front)) (λ x b q k. search (rules, tests))
+    ∙ position_from-zero test _
+    ∙ position_is (row_size Symbols) test (symbol_matches a.t.now a.index) n a.t.now (λ j. symbol_row a.t.now j a.index)
