@@ -87,11 +87,14 @@ pub fn put_i32(out: &mut [u8], at: usize, v: i32)
     put_u32(out, at, bits32(v));
 }
 
+// Byte by byte, and not by copy_from_slice: of n bytes that calls memmove, which C would have to bring (docs/LOOK-BACK.md).
 pub fn copy(out: &mut [u8], at: usize, src: &[u8], from: usize, n: usize)
     requires { (at + n ≤ length out.old) × (from + n ≤ length src.now) }
     ensures { out.new ≡ splice out.old at (take n (drop from src.now)) }
 {
-    out[at..at + n].copy_from_slice(&src[from..from + n]);
+    for i in 0..n {
+        out[at + i] = src[from + i];
+    }
 }
 
 pub fn wipe(out: &mut [u8])

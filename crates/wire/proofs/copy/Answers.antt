@@ -1,15 +1,25 @@
--- The part that is written is as long as the part that is read: it is one splice.
+-- The invariant: what is written is a paste of the first i bytes; n of them are the splice.
 use mathlib.Core.Path.{◌≡◌, ap, ◌∙◌}
-use Prim.Native.Nat.{ℕ, ◌+◌, ◌-◌}
+use mathlib.Core.List.{List}
+use Prim.Native.Nat.{ℕ, ◌+◌}
 use native.Mathlib.Omega.{arith}
-use lib.ListN.{take, drop, length-take, length-drop}
-use Rattle.wire.proofs.Stores.{put_mid_splice}
+use lib.ListN.{drop, get_or, set, length-set, length-drop}
+use lib.Seq.{paste}
+use Rattle.rules.proofs.Splices.{copy_turn, paste_splice}
 use Rattle.wire.proofs.copy.Goals as goal
+
+pub loop-i-preserved : goal.loop-i-preserved
+loop-i-preserved c =
+    let a = c.args in (
+      ap (λ (d : List ℕ). set d (a.at + c.loop-i.i) (get_or a.src.now (a.from + c.loop-i.i) 0)) c.loop-i.invariant.0
+          ∙ copy_turn a.out.now a.at a.src.now a.from c.loop-i.i (omega arith) (omega arith),
+      length-set c.loop-i.out (a.at + c.loop-i.i) (get_or a.src.now (a.from + c.loop-i.i) 0) ∙ c.loop-i.invariant.1,
+    )
 
 pub returns : goal.returns
 returns c =
     let a = c.args in
-    let e : a.from + a.n - a.from ≡ a.n = omega arith in
-    put_mid_splice a.out.now (take a.n (drop a.from a.src.now)) c.copy_from_slice.new.self a.at a.n
-    (c.copy_from_slice.ensures.after ∙ ap (λ (k : ℕ). take k (drop a.from a.src.now)) e)
-    (simp (length-take, length-drop) (omega arith))
+    let e : c.loop-i.i ≡ a.n = omega arith in
+    c.loop-i.invariant.0
+    ∙ ap (paste a.out.now a.at (drop a.from a.src.now)) e
+    ∙ paste_splice a.out.now a.at (drop a.from a.src.now) a.n (rw length-drop (omega arith))
