@@ -5,7 +5,9 @@ use mathlib.Core.Bool.{Bool, true, false, ◌&&◌}
 use mathlib.Core.List.{List, ◌++◌}
 use Prim.Native.Nat.{ℕ, zero, suc, ◌+◌, ◌-◌, ◌*◌, ◌/◌, ◌%◌, ◌≤◌, ◌<◌}
 use native.Mathlib.Omega.{arith}
-use native.Mathlib.Nat.{mul_comm, zero-add, add-zero, lt_of_mul-lt-mul_right, mul-div_cancel}
+use native.Mathlib.Nat.{mul_comm, zero-add, lt_of_mul-lt-mul_right}
+use native.Mathlib.Numerals.{add-one}
+use Rattle.std.specs.List.{list_all, range_with_len}
 use lib.Dec.{eqb}
 use lib.ListN.{length, take, drop}
 use lib.Seq.{get_or-take, get_or-drop, take_at, drop_at, drop-drop, take-take}
@@ -34,24 +36,9 @@ module _ (order : Order) (info : Info) where
   abbrev pub on_slot : ℕ → Bool
   on_slot k = eqb (u32_at order info.bytes (info.size * k) % 8) 0
 
-  pub grid_all : (k n : ℕ) → ((j : ℕ) → j < n → on_slot (k + j) ≡ true) → on_grid order info k n ≡ true
-  grid_all k zero h = refl
-  grid_all k (suc n) h =
-      let first : on_slot k ≡ true = rw add-zero at (h 0 (omega arith)) in
-      let rest : on_grid order info (suc k) n ≡ true = grid_all (suc k) n (λ j l. let e : k + suc j ≡ suc k + j = omega arith in rw e at (h (suc j) (omega arith))) in
-      ap (λ (b : Bool). b && on_grid order info (suc k) n) first ∙ rest
-
-  pub grid_not : (k n j : ℕ) → j < n → on_slot (k + j) ≡ false → on_grid order info k n ≡ false
-  grid_not k zero j l h = absurd (omega arith)
-  grid_not k (suc n) zero l h = ap (λ (b : Bool). b && on_grid order info (suc k) n) (rw add-zero at h)
-  grid_not k (suc n) (suc j) l h =
-      let e : k + suc j ≡ suc k + j = omega arith in
-      let rest : on_grid order info (suc k) n ≡ false = grid_not (suc k) n j (omega arith) (rw e at h) in
-      last (on_slot k) _ rest
-    where
-      last : (a b : Bool) → b ≡ false → a && b ≡ false
-      last true b e = e
-      last false b e = refl
+  pub all_is : (k n : ℕ) → list_all on_slot (range_with_len k n) ≡ on_grid order info k n
+  all_is k zero = refl
+  all_is k (suc n) = ap (λ (b : Bool). on_slot k && b) (all_is (k + 1) n ∙ ap (λ (m : ℕ). on_grid order info m n) (add-one k))
 
   -- the number at the start of a record, in the record and in the data
   pub first_u32 : (k : ℕ) → 4 ≤ info.size → u32_at order (chunk info k) 0 ≡ u32_at order info.bytes (info.size * k)
@@ -59,60 +46,11 @@ module _ (order : Order) (info : Info) where
       u32_same order info.bytes (chunk info k) (info.size * k) 0
       (λ j l. ap (λ (i : ℕ). byte_at (chunk info k) i) (zero-add j) ∙ get_or-take info.size (drop (info.size * k) info.bytes) j 0 (omega arith) ∙ get_or-drop (info.size * k) info.bytes j 0)
 
--- what a place of a run holds
-taken : {A : Type 0} (P : A → Type 0) (o : Option A) (x : A) → o ≡ Some x → IfSome o P → P x
-taken P o x e h = rw e at h
-
-there : {A : Type 0} (o : Option A) (y : A) → option_map (λ z. z) o ≡ Some y → (x : A) × (o ≡ Some x)
-there None y e = absurd (cc)
-there (Some x) y e = (x, refl)
-
-some : {A : Type 0} (P : A → Type 0) (o : Option A) → IsSomeAnd o P → (x : A) × (o ≡ Some x) × P x
-some P None h = absurd h
-some P (Some x) h = (x, refl, h)
-
--- what `all` of a test of each record's first number gives
-module _ (order : Order) (info : Info) (lent : Bor (List ℕ)) (least : 4 ≤ info.size) (whole : info.count * info.size ≡ length info.bytes) where
-  module _ {F : Type 0} (g : Mut F (Bor (List ℕ) × Unit {0}) Bool) (f : F) where
-    pub all_on_grid : (s : _) (r : Bool) → SomeRun (chunks_exact_steps {A = ℕ}) s (λ p. MatchBool r (IsTrue p.whole × AllItemsGive p g f true) (AnyItemGives p g f false))
-        → EveryRun (chunks_exact_steps {A = ℕ}) (λ p. 0 < chunks_exact_size p.from → IsChunksExactRun p (chunks_exact_size p.from) (chunks_exact_rest p.from))
-        → chunks_exact_rest s ≡ info.bytes → chunks_exact_size s ≡ info.size
-        → CallKeepsClosure g f → ((x : Bor (List ℕ)) (b : Bool) → Called g f (x, tt) b f → b ≡ eqb (u32_at order x.now 0 % 8) 0)
-        → r ≡ on_grid order info 0 info.count
-    all_on_grid s r (p, from, m) every rest size keeps tests = go r m
-      where
-        sized : chunks_exact_size p.from ≡ info.size
-        sized = ap chunks_exact_size from ∙ size
-
-        run : IsChunksExactRun p info.size info.bytes
-        run = subst (λ (xs : List ℕ). IsChunksExactRun p info.size xs) (ap chunks_exact_rest from ∙ rest)
-            (subst (λ (n : ℕ). IsChunksExactRun p n (chunks_exact_rest p.from)) sized (every p p.seen (omega (arith, sized))))
-
-        -- an item is the record at its place
-        item : (k : ℕ) (x : Bor (List ℕ)) → p.at k ≡ Some x → (k < info.count) × (x.now ≡ chunk info k)
-        item k x e =
-            let i = taken _ (p.at k) x e (run.2 k) in
-            let l : k * info.size < info.count * info.size = omega (arith, i.1) in
-            (lt_of_mul-lt-mul_right info.size l, i.2.0 ∙ ap (λ (n : ℕ). take info.size (drop n info.bytes)) (mul_comm k info.size))
-
-        test : (k : ℕ) (x : Bor (List ℕ)) (b : Bool) → p.at k ≡ Some x → Called g f (x, tt) b f → on_slot order info k ≡ b
-        test k x b e h =
-            sym (tests x b h ∙ ap (λ (l : List ℕ). eqb (u32_at order l 0 % 8) 0) (item k x e).1 ∙ ap (λ (n : ℕ). eqb (n % 8) 0) (first_u32 order info k least))
-
-        go : (r : Bool) → MatchBool r (IsTrue p.whole × AllItemsGive p g f true) (AnyItemGives p g f false) → r ≡ on_grid order info 0 info.count
-        go true m = sym (grid_all order info 0 info.count (λ j l. rw zero-add (each j l)))
-          where
-            long : p.len ≡ info.count
-            long = run.1 m.0 ∙ ap (λ (n : ℕ). n / info.size) (sym whole) ∙ mul-div_cancel info.count (omega arith)
-
-            each : (j : ℕ) → j < info.count → on_slot order info j ≡ true
-            each j l =
-                let x = there (p.at j) _ (p.reads j lent (omega (arith, long))) in
-                test j x.0 true x.1 (taken _ (p.at j) x.0 x.1 (m.1 keeps j))
-        go false m =
-            let q = m keeps in
-            let x = some _ (p.at q.0) q.2 in
-            sym (grid_not order info 0 info.count q.0 (item q.0 x.0 x.1).0 (rw zero-add (test q.0 x.0 false x.1 x.2)))
+-- a number read where a part begins
+pub u32_from : (order : Order) (bytes : List ℕ) (at n : ℕ) → 4 ≤ n → u32_at order (take n (drop at bytes)) 0 ≡ u32_at order bytes at
+u32_from order bytes at n l =
+    u32_same order bytes (take n (drop at bytes)) at 0
+    (λ j m. ap (λ (i : ℕ). byte_at (take n (drop at bytes)) i) (zero-add j) ∙ get_or-take n (drop at bytes) j 0 (omega arith) ∙ get_or-drop at bytes j 0)
 
 -- ---- the data left from record k on, cut at that record's end
 module _ (info : Info) (k : ℕ) where

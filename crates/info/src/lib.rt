@@ -5,11 +5,12 @@ ghost use Rattle.std.specs.Prelude.{◌≡◌, ◌+◌, ◌*◌, ◌/◌, ◌%�
 ghost use Rattle.rules.specs.Bytes.{little, u32_at, padded};
 ghost use Rattle.rules.specs.Answers.{reply_of};
 ghost use Rattle.rules.specs.Rows.{row_size};
-ghost use Rattle.rules.specs.Readers.{is_whole, rows_of_records, has_record, record_reply};
+ghost use Rattle.rules.specs.Readers.{on_grid, is_whole, rows_of_records, has_record, record_reply};
 ghost use Rattle.info.specs.Promises.{table_of, table_in, info_in, ReadAs, Ready, GivenBack};
 
 use answers::refusal;
 use insn::{is_on_grid, offset_at, to_slot};
+use rules::limits::{FUNC_INFO_SIZE, LINE_INFO_SIZE};
 use rules::{ByteOffset, Cause, Places, Refusal, Table};
 use wire::{copy, put_u32, u32_at, wipe};
 
@@ -73,6 +74,21 @@ pub struct Records<'a> {
 }
 
 impl<'a> Records<'a> {
+    fn begins_at(self, k: usize) -> bool
+        requires { self.size * k + 4 ≤ length self.bytes.now }
+        ensures { result ≡ eqb (u32_at little self.entry.bytes.now (self.entry.size * k) % 8) 0 }
+    {
+        begins_on_slot(&self.bytes[self.size as usize * k..])
+    }
+
+    // By record numbers: chunks of a size that is not known cost an instruction more for each record.
+    fn begin_on_slots(self) -> bool
+        requires { (4 ≤ self.size) × (self.count * self.size ≡ length self.bytes.now) }
+        ensures { result ≡ on_grid little (info_in self.entry) 0 self.entry.count }
+    {
+        (0..self.count as usize).all(|k| self.begins_at(k))
+    }
+
     // No 14: a u32 times a u32 is a u64.
     fn is_whole(self) -> bool
         ensures { result ≡ is_whole little (table_in self.entry) (info_in self.entry) }
@@ -80,7 +96,7 @@ impl<'a> Records<'a> {
         let size = self.size as usize;
         size >= self.kind.row_size()
             && self.count as usize * size == self.bytes.len()
-            && self.bytes.chunks_exact(size).all(begins_on_slot)
+            && self.begin_on_slots()
     }
 
     fn has_record(self, k: u32) -> bool
@@ -90,15 +106,26 @@ impl<'a> Records<'a> {
     }
 
     // Row k is written after the rows before it; the tail of a record that is longer than a row is passed over.
-    fn put_rows(self, out: &mut [u8])
-        requires { Ready (row_size (table_in self)) self.size self.count self.bytes.now out.old }
+    fn put_rows_of(self, row: usize, out: &mut [u8])
+        requires ready { Ready (row_size (table_in self)) self.size self.count self.bytes.now out.old }
+        requires sized { row ≡ row_size (table_in self) }
         ensures { out.new ≡ padded (length out.old) (rows_of_records little (table_in self.entry) (info_in self.entry) 0 self.entry.count) }
     {
-        let row = self.kind.row_size();
         // No zip with chunks_exact_mut: a proof loses what is written through it.
         for (k, record) in self.bytes.chunks_exact(self.size as usize).enumerate() {
             put_u32(out, row * k, slot_in(record));
             copy(out, row * k + 4, record, 4, row - 4);
+        }
+    }
+
+    // By the kind, so that a row's size is a constant where its bytes are copied.
+    fn put_rows(self, out: &mut [u8])
+        requires { Ready (row_size (table_in self)) self.size self.count self.bytes.now out.old }
+        ensures { out.new ≡ padded (length out.old) (rows_of_records little (table_in self.entry) (info_in self.entry) 0 self.entry.count) }
+    {
+        match self.kind {
+            RecordKind::Functions => self.put_rows_of(FUNC_INFO_SIZE, out),
+            RecordKind::Lines => self.put_rows_of(LINE_INFO_SIZE, out),
         }
     }
 

@@ -10,7 +10,6 @@ use Rattle.rules.specs.Bytes.{little}
 use Rattle.rules.specs.Rows.{row_size}
 use Rattle.rules.specs.Readers.{is_whole}
 use Rattle.info.specs.Promises.{table_in, info_in}
-use Rattle.info.proofs.Chunks.{all_on_grid}
 use Rattle.info.proofs.Records.is_whole.Goals.{then-size-row_size, else-size-row_size, Then-self-size}
 use Rattle.info.proofs.Records.is_whole.Goals as goal
 
@@ -25,9 +24,7 @@ unfolding is_whole
 returns-then-self-size c =
     let r = c.args.self in
     let p = passed (goal.at.returns-then-self-size c).Then-self-size in
-    let grid = all_on_grid little (info_in r) r.bytes (omega (arith, c.row_size.ensures.1)) p.1 _ _ c.chunks_exact.result c.all.result c.all.ensures.runs
-    c.chunks_exact.ensures.runs c.chunks_exact.ensures.rest c.chunks_exact.ensures.size (λ a b f h. refl) (λ x b h. search rules) in
-    simp (le-leb _ _ p.0, eq-eqb _ _ p.1) grid
+    simp (le-leb _ _ p.0, eq-eqb _ _ p.1) c.begin_on_slots.ensures
 
 pub returns-else-self-size : goal.returns-else-self-size
 unfolding is_whole

@@ -7,7 +7,7 @@ use Rattle.rules.specs.declared.Table.{Table}
 use Rattle.rules.specs.Bytes.{little, padded}
 use Rattle.rules.specs.Readers.{Info, rows_of_records}
 use Rattle.info.specs.Promises.{table_in, info_in}
-use Rattle.info.proofs.Records.put_rows.Given as goal
+use Rattle.info.proofs.Records.put_rows_of.Given as goal
 
 pub record Far (table : Table) (info : Info) (first out left : List ℕ) (size k : ℕ) : Type 0 where
   pub most : k ≤ info.count
