@@ -47,4 +47,4 @@ codes = values code_of 0 256
 -- the rule, tested once over the whole table, at each of its entries
 pub kind_at_lem : (opcode : ℕ) → opcode < 256 → kind_at (get_or codes opcode 0) ≡ kind opcode
 unfolding codes
-kind_at_lem opcode h = ap kind_at (values_at code_of 256 opcode 0 h) ∙ kind_back (kind opcode)
+kind_at_lem opcode h = ap kind_at (values_at code_of 256 opcode 0 h) ∙ kind_back _

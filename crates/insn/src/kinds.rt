@@ -1,6 +1,7 @@
 // The kind of each opcode byte.
-ghost use Rattle.std.specs.Prelude.{◌≡◌};
+ghost use Rattle.std.specs.Prelude.{◌≡◌, get_or};
 ghost use Rattle.rules.specs.Walk.{kind};
+ghost use Rattle.insn.specs.Kinds.{codes, kind_at};
 
 use rules::Kind;
 
@@ -265,7 +266,8 @@ static KINDS: [Kind; 256] = [
 ];
 
 pub fn kind(op: u8) -> Kind
-    ensures { result ≡ kind op }
+    ensures is { result ≡ kind op }
+    ensures coded { result ≡ kind_at (get_or codes op 0) }
 {
     KINDS[op as usize]
 }
