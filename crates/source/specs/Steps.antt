@@ -1,18 +1,28 @@
 -- The source walk over lent frames: a frame is a row and a slot number.
 -- Assumes nothing.
-use Rattle.std.specs.Prelude.{◌≡◌, List, ℕ, pos, length, Result, Ok, Err}
+use Rattle.std.specs.Prelude.{◌≡◌, cond, List, ℕ, eqb, ℤ, pos, length, Result, Ok, Err}
 use Rattle.std.proofs.Math.Option.{Option, none, some}
 use Rattle.rules.specs.declared.Refusal.{Refusal}
 use Rattle.rules.specs.Answers.{Reply, refused_reply}
 use Rattle.rules.specs.Rows.{Offered, or_else, no_root, map_step_refusal}
-use Rattle.rules.specs.Walk.{SourcePlace, place, in_source, source_walk}
+use Rattle.rules.specs.Lookups.{found_of}
+use Rattle.rules.specs.Walk.{within, SourcePlace, place, in_source, source_walk}
 use Rattle.walk.specs.Runs.{answers_in, Frames, Ran}
-use Rattle.walk.specs.Steps.{stood_of, slice_frames}
+use Rattle.walk.specs.Steps.{stood_of, slice_frames, arrived_by}
 use Rattle.walk.specs.declared.Stand.{Stand}
+use Rattle.walk.specs.declared.Stand.TheVariants.{Left, NoFrame}
 use Rattle.source.specs.Moves.{object_in}
 
 abbrev pub source_frames : Frames SourcePlace (List SourcePlace)
 source_frames = slice_frames (place 0 (pos 0))
+
+-- in a function of so many slots
+abbrev pub arrived_at : ℕ → ℕ → ℤ → ℕ → ℕ → Stand SourcePlace
+arrived_at slots row at depth taken = arrived_by (found_of (within slots (λ n. n) at)) (place row at) depth taken
+
+-- a call, of a function of so many slots, for which there is no frame
+abbrev pub frameless_at : ℕ → Stand SourcePlace
+frameless_at slots = cond (eqb slots 0) Left NoFrame
 
 -- at most so many steps from the root's first slot: the frames before and after, and what it comes to
 abbrev pub SourceRan : Offered → ℕ → List SourcePlace → List SourcePlace → List ℕ → ℕ → Stand SourcePlace → Type 0

@@ -10,9 +10,9 @@ ghost use Rattle.rules.specs.Rows.{whole_rows, summed, function_slots};
 ghost use Rattle.rules.specs.Lookups.{Sound, Checked};
 ghost use Rattle.rules.specs.Walk as walks;
 ghost use Rattle.rules.specs.Walk.{in_source};
-ghost use Rattle.walk.specs.Moves.{move_of};
+ghost use Rattle.walk.specs.Moves.{move_of, in_slots};
 ghost use Rattle.source.specs.Moves.{object_in, Slotted, slots_in, called_by};
-ghost use Rattle.source.specs.Steps.{walk_refusal, SourceWalked};
+ghost use Rattle.source.specs.Steps.{arrived_at, frameless_at, walk_refusal, SourceWalked};
 
 use insn::{after, place, slot_at};
 use resolve::resolve;
@@ -120,6 +120,43 @@ impl Ground for SourceGround<'_> {
     fn has(&self, at: Place) -> bool {
         slot_in(at.slot, slots_of(self.names.functions, at.row)).is_some()
     }
+}
+
+// The functions of any table 3, of which no more is known than how many slots each has: a walk arrives at one and goes no further.
+#[derive(Clone, Copy)]
+pub struct RowSlots<'a> {
+    pub functions: &'a [u8],
+}
+
+impl Ground for RowSlots<'_> {
+    type Place = Place;
+
+    ghost sight = { λ s at. in_slots (slots_in s.functions.now at.row) at.slot };
+
+    ghost blank = { walks.place 0 (pos 0) };
+
+    fn look(&self, at: Place) -> Option<Move<Place>> {
+        self.has(at).then_some(Move::Stuck)
+    }
+
+    fn has(&self, at: Place) -> bool {
+        slot_in(at.slot, slots_of(self.functions, at.row)).is_some()
+    }
+}
+
+// In any table 3, at any place.
+pub fn arrive(functions: &[u8], row: usize, at: i64, depth: usize, taken: usize) -> Stand<Place>
+    ensures { result ≡ arrived_at (slots_in functions.now row) row at depth taken }
+{
+    let at = Place { row, slot: at };
+    walk::arrive(&RowSlots { functions }, at, depth, taken)
+}
+
+// A call of that row for which there is no frame.
+pub fn frameless(functions: &[u8], row: usize) -> Stand<Place>
+    ensures { result ≡ frameless_at (slots_in functions.now row) }
+{
+    walk::frameless(&RowSlots { functions }, Place { row, slot: 0 })
 }
 
 // What the link refuses of these tables: 1, 2 and 13.

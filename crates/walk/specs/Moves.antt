@@ -5,7 +5,7 @@ use Rattle.std.specs.Prelude.{◌≡◌, List, ℕ, ◌*◌, ◌≤◌, ℤ, pos
 use Rattle.std.proofs.Math.Option.{Option, none, some}
 use Rattle.rules.specs.Object.{Insn}
 use Rattle.rules.specs.Bytes.{little, slot_size, decoded}
-use Rattle.rules.specs.Walk.{Move, goes, chooses, enters, returns, stuck, leads}
+use Rattle.rules.specs.Walk.{Move, goes, chooses, enters, returns, stuck, leads, within}
 use Rattle.walk.specs.declared.Move as found
 use Rattle.walk.specs.declared.Move.TheVariants.{Goes, Chooses, Enters, Returns, Stuck}
 
@@ -21,6 +21,10 @@ module _ {Place : Type 0} where
   abbrev pub move_of : prelude.Option (found.Move Place) → Option (Move Place)
   move_of prelude.None = none
   move_of (prelude.Some move) = some (moved move)
+
+  -- what one sees at a number, of so many slots of which no more is known
+  abbrev pub in_slots : ℕ → ℤ → Option (Move Place)
+  in_slots slots at = within slots (λ n. stuck) at
 
 -- an image of so many slots at the start of a buffer
 pub record Ground (image : List ℕ) (slots : ℕ) : Type 0 where

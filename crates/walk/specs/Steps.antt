@@ -1,12 +1,14 @@
 -- Walks over lent frames, as code takes them: over any ground, and over an image, where a frame is a slot number.
 -- Assumes nothing.
+use Rattle.std.specs.Prelude as prelude
 use Rattle.std.specs.Prelude.{◌≡◌, cond, List, ℕ, ◌/◌, ◌≤◌, ◌<◌, ℤ, pos, length, get_or, set, Result, Ok, Err}
 use Rattle.std.proofs.Math.Option.{Option}
 use Rattle.rules.specs.Object.{Insn}
 use Rattle.rules.specs.Bytes.{slot_size}
+use Rattle.rules.specs.Lookups.{found_of}
 use Rattle.rules.specs.Rows.{most_image_slots}
 use Rattle.rules.specs.Tables.{is_some}
-use Rattle.rules.specs.Walk.{Move, walk, in_image, image_walk}
+use Rattle.rules.specs.Walk.{Move, walk, within, in_image, image_walk}
 use Rattle.walk.specs.Moves.{image_in}
 use Rattle.walk.specs.Runs.{answers_in, Stood, stands, stops, ends, leaves, lacks, Frames, walk_from, Stepped, Ran}
 use Rattle.walk.specs.declared.Here.{Here}
@@ -31,6 +33,15 @@ module _ {Place : Type 0} where
     pub deep : here.depth ≤ length frames
     pub few : here.taken ≤ length answers
 
+  -- by the slot that was found at the place
+  abbrev pub arrived_by : prelude.Option ℕ → Place → ℕ → ℕ → Stand Place
+  arrived_by prelude.None at depth taken = Left
+  arrived_by (prelude.Some k) at depth taken = Standing (record { at = at; depth = depth; taken = taken })
+
+  abbrev pub frameless_by : prelude.Option ℕ → Stand Place
+  frameless_by prelude.None = Left
+  frameless_by (prelude.Some k) = NoFrame
+
   module _ (look : Place → Option (Move Place)) where
     abbrev pub arrived_at : Place → ℕ → ℕ → Stand Place
     arrived_at at depth taken = cond (is_some (look at)) (Standing (record { at = at; depth = depth; taken = taken })) Left
@@ -48,6 +59,13 @@ module _ {Place : Type 0} where
     abbrev pub RanOver : Place → List Place → List Place → List ℕ → Place → ℕ → Stand Place → Type 0
     RanOver blank frames after answers first limit s =
         Ran (slice_frames blank) look (length answers) frames after (walk look first (answers_in answers)) limit (stood_of s)
+
+-- of so many slots
+abbrev pub arrived_in : ℕ → ℤ → ℕ → ℕ → Stand ℤ
+arrived_in slots at depth taken = arrived_by (found_of (within slots (λ n. n) at)) at depth taken
+
+abbrev pub frameless_in : ℕ → ℤ → Stand ℤ
+frameless_in slots first = frameless_by (found_of (within slots (λ n. n) first))
 
 abbrev pub image_frames : Frames ℤ (List ℤ)
 image_frames = slice_frames (pos 0)

@@ -8,8 +8,8 @@ ghost use Rattle.rules.specs.Tables.{is_some};
 ghost use Rattle.std.proofs.Math.Option as math;
 ghost use Rattle.rules.specs.Walk as walks;
 ghost use Rattle.rules.specs.Walk.{in_image, within};
-ghost use Rattle.walk.specs.Moves.{move_of, Ground, image_in, leads_in};
-ghost use Rattle.walk.specs.Steps.{arrived_at, frameless_at, Fitting, SteppedOver, RanOver, ImageWalked};
+ghost use Rattle.walk.specs.Moves.{move_of, Ground, image_in, leads_in, in_slots};
+ghost use Rattle.walk.specs.Steps.{arrived_at, frameless_at, arrived_in, frameless_in, Fitting, SteppedOver, RanOver, ImageWalked};
 
 use insn::kinds::kind;
 use insn::{immediate, insn_is_call, offset, opcode, slot_at};
@@ -210,6 +210,39 @@ pub fn leads_at(code: &[u8], here: Slot, slot: Slot) -> Move<i64>
         Kind::Exit => Move::Returns,
         Kind::Unknown => Move::Stuck,
     }
+}
+
+// Slots of which no more is known than how many there are: a walk arrives at one and goes no further.
+#[derive(Clone, Copy)]
+pub struct Slots(pub u32);
+
+impl Ground for Slots {
+    type Place = i64;
+
+    ghost sight = { λ s. in_slots s.0 };
+
+    ghost blank = { pos 0 };
+
+    fn look(&self, at: i64) -> Option<Move<i64>> {
+        self.has(at).then_some(Move::Stuck)
+    }
+
+    fn has(&self, at: i64) -> bool {
+        slot_in(at, self.0).is_some()
+    }
+}
+
+// Any number of slots, and any place.
+pub fn arrive_in(slots: u32, at: i64, depth: usize, taken: usize) -> Stand<i64>
+    ensures { result ≡ arrived_in slots at depth taken }
+{
+    arrive(&Slots(slots), at, depth, taken)
+}
+
+pub fn frameless_in(slots: u32, first: i64) -> Stand<i64>
+    ensures { result ≡ frameless_in slots first }
+{
+    frameless(&Slots(slots), first)
 }
 
 // An image of so many slots at the start of a buffer.

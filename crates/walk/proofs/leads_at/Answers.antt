@@ -20,7 +20,7 @@ abbrev insn : After-kind → Insn
 insn n = slot_in little n.args.code.now n.args.here.0
 
 kind_is : (n : After-kind) (k : Kind) → n.kind.result ≡ k → kind (insn n).opcode ≡ k
-kind_is n k e = ap kind (sym n.opcode.ensures) ∙ sym n.kind.ensures ∙ e
+kind_is n k e = ap kind (sym n.opcode.ensures) ∙ sym n.kind.ensures.is ∙ e
 
 -- the definition's case
 by_kind_of : (n : After-kind) (k : Kind) → n.kind.result ≡ k → some (by_kind k (insn n) (λ d. pos n.args.slot.0 +ℤ d) (some (pos n.args.slot.0 +ℤ (pos 1 +ℤ (insn n).immediate)))) ≡ leads_in (insn n) n.args.slot.0

@@ -4,7 +4,7 @@ use mathlib.Core.Option.{Option}
 use mathlib.Core.List.{List}
 use Prim.Native.Nat.{ℕ, ◌<◌}
 use native.Mathlib.Numerals.{add-one}
-use native.Mathlib.Omega.{arith}
+use Rattle.std.proofs.Common.{rules}
 use Rattle.rules.specs.Walk.{Move}
 use Rattle.walk.specs.Steps.{stood_of, slice_frames, SteppedOver, RanOver}
 use Rattle.walk.specs.declared.Here.{Here}
@@ -35,10 +35,14 @@ pub step-next-requires : goal.step-next-requires
 step-next-requires g c = record { deep = c.loop.invariant.deep; few = c.loop.invariant.few }
 
 pub returns-in_default : goal.returns-in_default
-returns-in_default g c = ends_there c.loop.invariant _ c.step-next.ensures c.in_default.not-Standing _ c.loop-test.true
+returns-in_default g c =
+    let within : c.loop.counter < c.args.limit = search rules in
+    ends_there c.loop.invariant _ c.step-next.ensures c.in_default.not-Standing _ within
 
 pub loop-preserved : goal.loop-preserved
 loop-preserved g c = rw (add-one c.loop.counter) (goes_on _ _ _ _ _ (slice_laws _) c.loop.invariant c.step-next.ensures _ _ _ (ap stood_of c.in-Standing.is))
 
 pub returns : goal.returns
-returns g c = arrives_last _ _ _ _ _ c.loop.invariant (omega (arith, c.loop-test.false, c.loop.auto.counter-end))
+returns g c =
+    let all : c.loop.counter ≡ c.args.limit = search rules in
+    arrives_last _ _ _ _ _ c.loop.invariant all
