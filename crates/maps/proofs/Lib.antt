@@ -1,4 +1,5 @@
 pub mod Tasks
 pub mod Passes
+pub mod Past
 pub mod Rewriting
 pub mod Step
