@@ -89,8 +89,9 @@ impl LineRecord {
 }
 
 // Records of piece k, `count` of them, which should stand from `at` on among n of the image: the first that does not. `same` says whether
-// record j of the piece is that record of the image.
-fn check_run<F: Fn(u32, u32) -> bool>(
+// record j of the piece is that record of the image. The numbers of records are usize: to the compiler a sum of two u32 may wrap, and then each
+// record's place is computed anew.
+fn check_run<F: Fn(usize, usize) -> bool>(
     cause: Cause,
     k: u32,
     n: usize,
@@ -104,9 +105,9 @@ fn check_run<F: Fn(u32, u32) -> bool>(
         → refusal_in result ≡ first_wrong (record_wrong (number_of cause) k n at test) 0 count }
 {
     for j in 0..count {
-        let to = at + j;
-        if to as usize >= n || !same(j, to) {
-            return Err(finding(cause, k, j, to));
+        let to = at as usize + j as usize;
+        if to >= n || !same(j as usize, to) {
+            return Err(finding(cause, k, j, to as u32));
         }
     }
     Ok(())
@@ -127,20 +128,20 @@ fn check_funcs(func_info: &[u8], shown: &[u8], piece: Piece, count: u32) -> Resu
     } = piece;
     let n = shown.len() / FUNC_INFO_SIZE;
     check_run(Cause::FuncInfoDiffers, k, n, funcs, count, |j, to| {
-        let own = FuncRecord::read(func_info, (part.funcs + j) as usize);
-        FuncRecord::read(shown, to as usize) == own.placed(k, start)
+        let own = FuncRecord::read(func_info, part.funcs as usize + j);
+        FuncRecord::read(shown, to) == own.placed(k, start)
     })
 }
 
-// Its line records, `count` of table 8: these move by the first one's slot, so there has to be one.
-fn check_lines(line_info: &[u8], shown: &[u8], piece: Piece, count: u32) -> Result<(), Refusal>
-    requires { Lines line_info.now piece.part.lines count piece.lines piece.k piece.start.0 }
+// Line records of a piece, at least one: these move by the first one's slot.
+// Not inlined, since the loop would have its numbers in memory in what it is inlined into.
+#[inline(never)]
+fn check_some_lines(line_info: &[u8], shown: &[u8], piece: Piece, count: u32) -> Result<(), Refusal>
+    requires lines { Lines line_info.now piece.part.lines count piece.lines piece.k piece.start.0 }
+    requires some { 0 < count }
     ensures { refusal_in result
         ≡ first_wrong (line_wrong line_info.now piece.part.lines shown.now piece.lines piece.k piece.start.0) 0 count }
 {
-    if count == 0 {
-        return Ok(());
-    }
     let Piece {
         k,
         start,
@@ -151,9 +152,21 @@ fn check_lines(line_info: &[u8], shown: &[u8], piece: Piece, count: u32) -> Resu
     let origin = line_info_slot(line_info, part.lines as usize);
     let n = shown.len() / LINE_INFO_SIZE;
     check_run(Cause::LineInfoDiffers, k, n, lines, count, |j, to| {
-        let own = LineRecord::read(line_info, (part.lines + j) as usize);
-        LineRecord::read(shown, to as usize) == own.placed(k, origin, start)
+        let own = LineRecord::read(line_info, part.lines as usize + j);
+        LineRecord::read(shown, to) == own.placed(k, origin, start)
     })
+}
+
+// Its line records, `count` of table 8: a piece without any pays for no call.
+fn check_lines(line_info: &[u8], shown: &[u8], piece: Piece, count: u32) -> Result<(), Refusal>
+    requires { Lines line_info.now piece.part.lines count piece.lines piece.k piece.start.0 }
+    ensures { refusal_in result
+        ≡ first_wrong (line_wrong line_info.now piece.part.lines shown.now piece.lines piece.k piece.start.0) 0 count }
+{
+    if count == 0 {
+        return Ok(());
+    }
+    check_some_lines(line_info, shown, piece, count)
 }
 
 // The link's own 12, for every piece but the first.

@@ -9,7 +9,7 @@ use Rattle.rules.specs.Rows.{whole_rows, line_info_row}
 use Rattle.rules.specs.Examine.{same_line_record, first_wrong}
 use Rattle.examine.specs.Recorded.{line_of, record_wrong}
 use Rattle.examine.proofs.Same.{same_lines}
-use Rattle.examine.proofs.records.check_lines.Goals as goal
+use Rattle.examine.proofs.records.check_some_lines.Goals as goal
 
 pub returns : goal.returns
 unfolding Rattle.examine.specs.Recorded.line_wrong
