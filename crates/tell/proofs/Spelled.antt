@@ -102,6 +102,11 @@ unfolding line_from
 from_first [] = refl
 from_first (x ∷ xs) = refl
 
+pub from_end : (t : List ℕ) (m : ℕ) → length t ≡ 0 → t ≡ line_from t m
+unfolding line_from
+from_end [] m e = refl
+from_end (x ∷ xs) m e = absurd (omega arith)
+
 pub from_next : (t : List ℕ) (k : ℕ) → line_from t (suc k) ≡ line_from (behind t) k
 unfolding line_from behind
 from_next [] k = refl

@@ -1,13 +1,17 @@
 -- A line of words: lines of a text, with numbers in the places that they keep for them. '#' keeps one for a number in decimal, '~' in
 -- decimal as a column of four, '$' for its four bytes in hexadecimal, '%' for the same with a space before each; '^' stands for a line's end, and the text's own lines end in a line feed.
 -- Assumes nothing.
-use Rattle.std.specs.Prelude.{Bool, true, false, cond, not, ◌||◌, Option, None, Some, List, [], ◌∷◌, ◌++◌, ℕ, zero, suc, ◌+◌, ◌-◌, ◌/◌, ◌%◌, ◌^◌, eqb, leb, ltb, length, get_or, take}
+use Rattle.std.specs.Prelude.{Bool, true, false, cond, not, ◌||◌, Option, None, Some, List, [], ◌∷◌, ◌++◌, ℕ, zero, suc, ◌+◌, ◌-◌, ◌/◌, ◌%◌, ◌^◌, eqb, leb, ltb, length, get_or, take, replicate}
 use Rattle.tell.specs.declared.lines.Mark.{Mark}
 use Rattle.tell.specs.declared.lines.Mark.TheVariants.{Decimal, Column, Bytes, Spaced}
 
 -- the bytes that a line has room for
 abbrev pub line_room : ℕ
 line_room = 192
+
+-- what is left of its room behind so many words
+abbrev pub zeros_behind : ℕ → List ℕ
+zeros_behind used = replicate (line_room - used) 0
 
 -- a line's words are what they were, and `more`; what would stand past the end of its room is left out
 unfoldable pub added : List ℕ → List ℕ → List ℕ

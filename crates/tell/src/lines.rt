@@ -1,7 +1,8 @@
 // A line of words: lines of a text, with numbers in the places that they keep for them.
-ghost use Rattle.std.specs.Prelude.{◌≡◌, [], ◌∷◌, ◌*◌, ◌^◌, ◌≤◌, ◌<◌, List, ℕ, length, get_or, take, ◌==◌, position};
+ghost use Rattle.std.specs.Prelude.{◌≡◌, [], ◌∷◌, ◌*◌, ◌^◌, ◌≤◌, ◌<◌, ◌++◌, List, ℕ, length, get_or, take, drop, ◌==◌, position};
 ghost use Rattle.tell.specs.Lines.{added, hex_of, mark_of, place_of, decimal, byte_words, bytes_words};
-ghost use Rattle.tell.specs.Lines.{line_room, marked, plain, behind, line_from, words_in, spoken};
+ghost use Rattle.tell.specs.Lines.{line_room, zeros_behind, marked, plain, behind, line_from, words_in, spoken};
+ghost use Rattle.std.proofs.Common.{arith, length-take-le, take-append-drop};
 
 use crate::room::LINE;
 use std::marker::Model;
@@ -55,8 +56,8 @@ fn hex(d: u8) -> u8
     if d < 10 { b'0' + d } else { b'a' - 10 + d }
 }
 
-// A line: its words, and behind them what is left of its room. What would stand past the end of the room is left out.
-#[derive(Drop)]
+// A line: its words, and behind them zeros in what is left of its room. What would stand past the end of the room is left out.
+#[derive(Clone, Copy)]
 pub struct Words {
     bytes: [u8; LINE],
     used: usize,
@@ -67,7 +68,15 @@ impl Model for Words {
 
     ghost view = { λ w. take w.used w.bytes };
 
-    ghost invariant = { λ w. w.used ≤ line_room };
+    // The zeros are for `inverse`, which `Copy` needs: the words alone give the fields back.
+    ghost invariant = { λ w. (w.used ≤ line_room) × (length w.bytes ≡ line_room) × (drop w.used w.bytes ≡ zeros_behind w.used) };
+
+    ghost inverse = { λ v. record { bytes = v ++ zeros_behind (length v); used = length v } };
+
+    ghost inverse_ok = { λ w h i.
+        let used : length (take w.used w.bytes) ≡ w.used = length-take-le w.used w.bytes (omega (arith, h.0, h.1)) in
+        let bytes : take w.used w.bytes ++ zeros_behind (length (take w.used w.bytes)) ≡ w.bytes = rw (used, ← h.2) (take-append-drop w.used w.bytes) in
+        record { bytes = bytes i; used = used i } };
 }
 
 impl Words {
@@ -193,12 +202,15 @@ fn behind(text: &[u8]) -> &[u8]
     }
 }
 
-// A text from its line k on.
+// A text from its line k on. It leaves at the text's end: any number may be asked for, and a text that is used up stays so.
 fn line_from(text: &[u8], k: usize) -> &[u8]
     ensures { result.now ≡ line_from text.now k }
 {
     let mut rest = text;
     for _ in 0..k {
+        if rest.is_empty() {
+            return rest;
+        }
         rest = behind(rest);
     }
     rest
