@@ -2,6 +2,7 @@
 use mathlib.Core.Path.{◌≡◌, sym, ap, ◌∙◌}
 use mathlib.Core.Option.{none, some}
 use Rattle.std.proofs.lemmas.Result.{err_from_is_err_and}
+use Rattle.std.proofs.Common.{rules}
 use Rattle.rules.specs.Answers.{refusal_in, refused_reply}
 use Rattle.rules.specs.Lent.{lent}
 use Rattle.rules.specs.Rows.{link_refusal}
@@ -29,4 +30,4 @@ returns-in-Ok-clause-outcomes c =
 pub returns-in-Err-clause-outcomes : goal.returns-in-Err-clause-outcomes
 returns-in-Err-clause-outcomes c =
     whole.entry_wiped (lent c.args.names c.args.program) c.args.root c.wipe_all.ensures.wiped (passed (goal.at.returns-in-Err-clause-outcomes c).In_ok-check_link) c.in-Err.ensures
-    c.wipe_all-in-Err.ensures.wiped
+    (record { image = search rules; funcs = search rules; lines = search rules })

@@ -1,11 +1,11 @@
 -- No piece starts at a negative number. Of the others, the first piece that does not start before it is the only one that may start there.
 use mathlib.Core.Path.{◌≡◌, sym, ap, ◌∙◌}
-use native.Mathlib.Omega.{arith}
 use borrow.Author.Tests.{le-ltb}
 use lib.IntN.{pos}
 use mir.Syntax.{w64}
 use mir.Val.{to_z, of_z}
 use mir.ValLaws.{to_z-of_z}
+use Rattle.std.proofs.Common.{rules}
 use Rattle.rules.specs.Pieces.{pieces_of}
 use Rattle.pieces.proofs.Targets.{unfit, place_is, negative, past_all, at_most_one}
 use Rattle.pieces.proofs.tiles.starts_at.Goals.{Start, In-Ok}
@@ -28,10 +28,10 @@ pub returns-then-k-pieces : goal.returns-then-k-pieces
 returns-then-k-pieces c =
     c.is_piece.ensures
     ∙ sym (at_most_one c.args.pieces.now c.requires c.in-Ok.place c.args.target (there (goal.at.returns-then-k-pieces c).In-Ok) c.args.row
-    c.starts_before-k.result c.starts_before-k.ensures.0 c.if-k-pieces.true)
+    _ (search rules) c.if-k-pieces.true)
 
 pub returns-else-k-pieces : goal.returns-else-k-pieces
 returns-else-k-pieces c =
     le-ltb _ _ c.if-k-pieces.false
     ∙ sym (past_all c.args.pieces.now c.requires c.in-Ok.place c.args.target (there (goal.at.returns-else-k-pieces c).In-Ok) c.args.row
-    (omega (arith, c.starts_before-k.ensures.0, c.if-k-pieces.false)))
+    (search rules))
