@@ -11,10 +11,9 @@ use clerk::steps;
 use clerk::steps::Held;
 use rules::limits::{INSTRUCTION_SIZE, MOST_FUNCTIONS};
 use rules::{Image, Table};
-use show::{End, InImage, InSource, Line, Place, place_of, slot_bytes};
+use show::{End, InImage, InSource, Line, Place, image_place, slot_bytes, source_place};
 use source::{slots_of, walk_source};
 use std::io;
-use std::io::Write;
 use tell::files::{length_of, names, table};
 use tell::room::{FILE, INSTRUCTIONS};
 use walk::{TooLong, walk_image};
@@ -109,7 +108,7 @@ impl Object<'_> {
             self.answers,
             k,
         ) {
-            Ok(stand) => place_of(stand),
+            Ok(stand) => source_place(stand),
             Err(_) => Place {
                 at: None,
                 end: End::Refused,
@@ -121,7 +120,7 @@ impl Object<'_> {
     fn image_at(self, image: &[u8], k: usize) -> Place<InImage> {
         let mut frames = [0i64; FRAMES];
         match walk_image(image, &mut frames, self.answers, k) {
-            Ok(stand) => place_of(stand),
+            Ok(stand) => image_place(stand),
             Err(TooLong) => Place {
                 at: None,
                 end: End::TooLong,
@@ -149,12 +148,12 @@ impl Object<'_> {
         }
     }
 
-    // Step by step, until one of the two walks does not stand.
-    fn walks(self, out: &mut impl Write, instructions: &[u8], image: &[u8]) -> io::Result<()> {
-        writeln!(out, " step |  row slot depth bytes | slot depth bytes")?;
+    // Step by step, until one of the two walks does not stand. A line goes out by one call.
+    fn walks(self, rt: &impl Print, instructions: &[u8], image: &[u8]) -> io::Result<()> {
+        println!(rt; " step |  row slot depth bytes | slot depth bytes")?;
         for step in 0..self.limit as usize {
             let line = self.line(instructions, image, step);
-            writeln!(out, "{line}")?;
+            println!(rt; "{line}")?;
             if line.source.end != End::Stands || line.image.end != End::Stands {
                 break;
             }
@@ -163,9 +162,9 @@ impl Object<'_> {
     }
 
     // The map step, then the link, then both walks.
-    fn run(self, out: &mut impl Write, instructions: &mut [u8]) -> io::Result<()> {
+    fn run(self, rt: &impl Print, instructions: &mut [u8]) -> io::Result<()> {
         let Ok(_) = steps::map_step(self.file, instructions) else {
-            return writeln!(out, "the map step refuses");
+            return println!(rt; "the map step refuses");
         };
         let mut slots = [0u8; IMAGE];
         let mut image = Image {
@@ -178,14 +177,14 @@ impl Object<'_> {
             instructions,
         };
         let Ok(counts) = steps::link(held, self.root, &mut image) else {
-            return writeln!(out, "the link refuses");
+            return println!(rt; "the link refuses");
         };
         let used = IMAGE.min(INSTRUCTION_SIZE * counts.0 as usize);
-        self.walks(out, instructions, &slots[..used])
+        self.walks(rt, instructions, &slots[..used])
     }
 }
 
-fn one_object(input: &mut impl io::Read, out: &mut impl Write) -> Result<(), Stop> {
+fn one_object(rt: &impl Print, input: &mut impl io::Read) -> Result<(), Stop> {
     let header = read_header(input)?;
     let mut words = [0u8; WORDS];
     let all = header.name as usize + header.answers as usize;
@@ -201,19 +200,18 @@ fn one_object(input: &mut impl io::Read, out: &mut impl Write) -> Result<(), Sto
         limit: header.limit,
     };
     let n = INSTRUCTIONS.min(length_of(&file, Table::Instructions) as usize);
-    out.write_all(name)?;
-    writeln!(out)?;
-    object.run(out, &mut instructions[..n])?;
-    writeln!(out)?;
+    rt.write_all(name)?;
+    println!(rt)?;
+    object.run(rt, &mut instructions[..n])?;
+    println!(rt)?;
     Ok(())
 }
 
 // A proved loop has to end, and nothing says that the input does. So the objects are counted, up to a number that no run reaches.
 fn main(rt: HostRuntime) -> io::Result<()> {
     let mut input = rt.reader();
-    let mut out = io::writer(&rt);
     for _ in 0..u64::MAX {
-        match one_object(&mut input, &mut out) {
+        match one_object(&rt, &mut input) {
             Ok(()) => {}
             Err(Stop::Ended) => break,
             Err(Stop::Failed(why)) => return Err(why),

@@ -1,6 +1,6 @@
 // What a line says of the two walks.
 ghost use Rattle.std.specs.Prelude.{◌≡◌, ◌+◌, ℕ, Option, Some};
-ghost use Rattle.paths.specs.Shown.{source_at, image_at, place_shown, SlotIn, end_text, source_text, image_text, bytes_text, where_text, line_text};
+ghost use Rattle.paths.specs.Shown.{source_at, image_at, place_shown, source_shown, image_shown, SlotIn, end_text, source_text, image_text, bytes_text, where_text, line_text};
 
 use rules::limits::INSTRUCTION_SIZE;
 use std::fmt;
@@ -128,6 +128,18 @@ pub fn place_of<P: Shown>(stand: Stand<P>) -> Place<P::At>
         Stand::NoFrame => (None, End::NoFrame),
     };
     Place { at, end }
+}
+
+pub fn source_place(stand: Stand<rules::Place>) -> Place<InSource>
+    ensures { result ≡ source_shown stand }
+{
+    place_of(stand)
+}
+
+pub fn image_place(stand: Stand<i64>) -> Place<InImage>
+    ensures { result ≡ image_shown stand }
+{
+    place_of(stand)
 }
 
 // The bytes of a slot of a function that begins at `first` in some code, where the code has it.

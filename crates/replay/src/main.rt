@@ -7,6 +7,7 @@ mod run;
 mod show;
 
 ghost use Rattle.std.specs.Prelude.{◌≡◌};
+ghost use Rattle.replay.specs.Input.{word_at, data_in};
 
 use barkruffle::{barkruffle_read, barkruffle_record_number};
 use clerk::steps::Held;
@@ -18,7 +19,7 @@ use input::{
 use rules::{Image, Program};
 use show::Answer;
 use std::io;
-use std::io::Write;
+use std::io::Cursor;
 
 // Outputs are lent with this byte throughout, which no answer leaves where it promises others. They are arrays, cut to what a case asks
 // for, and no Vec: a run can't end for want of memory.
@@ -81,7 +82,12 @@ impl<'a> Case<'a> {
     }
 
     // What a reader is given.
-    fn records(self, kind: RecordKind) -> Records<'a> {
+    fn records(self, kind: RecordKind) -> Records<'a>
+        ensures kind { result.kind ≡ kind }
+        ensures size { result.size ≡ word_at self.entry.header.bytes 11 }
+        ensures count { result.count ≡ word_at self.entry.header.bytes 12 }
+        ensures bytes { result.bytes.now ≡ data_in self.entry.file.now (word_at self.entry.header.bytes 13) }
+    {
         let Case { header, file, .. } = self;
         Records {
             kind,
@@ -110,9 +116,13 @@ impl<'a> Case<'a> {
     }
 }
 
-// The next case, and the line of what it answers.
-fn one_case(input: &mut impl io::Read, out: &mut impl io::Write, index: u64) -> Result<(), Stop> {
-    let header = read_header(input)?;
+// A case after its header, and the line of what it answers. A function of its own: the buffers are made where it begins, so once.
+fn run_case(
+    input: &mut impl io::Read,
+    out: &mut impl io::Write,
+    index: u64,
+    header: Header,
+) -> Result<(), Stop> {
     let mut file = [0u8; FILE];
     let mut instructions = [0u8; TABLE_6];
     read_case(input, &header, &mut file, &mut instructions)?;
@@ -131,15 +141,29 @@ fn one_case(input: &mut impl io::Read, out: &mut impl io::Write, index: u64) -> 
     Ok(())
 }
 
+fn one_case(input: &mut impl io::Read, out: &mut impl io::Write, index: u64) -> Result<(), Stop> {
+    let header = read_header(input)?;
+    run_case(input, out, index, header)
+}
+
+// Room for a line: its seven numbers and the place buffer take 120 bytes at most.
+const LINE_ROOM: usize = 256;
+
+// A line goes out by one call.
+fn say(rt: &impl Print, line: &Cursor<[u8; LINE_ROOM]>) -> io::Result<()> {
+    let n = LINE_ROOM.min(line.position() as usize);
+    rt.write_all(&line.get_ref()[..n])
+}
+
 // A proved loop has to end, and nothing says that the input does. So the cases are counted, up to a number that no run reaches.
 fn main(rt: HostRuntime) -> io::Result<()> {
     let mut input = rt.reader();
-    let mut out = io::writer(&rt);
     for index in 0..u64::MAX {
-        match one_case(&mut input, &mut out, index) {
-            Ok(()) => {}
+        let mut line = Cursor::new([0u8; LINE_ROOM]);
+        match one_case(&mut input, &mut line, index) {
+            Ok(()) => say(&rt, &line)?,
             Err(Stop::Ended) => break,
-            Err(Stop::Bad) => return writeln!(out, "bad case"),
+            Err(Stop::Bad) => return println!(rt; "bad case"),
             Err(Stop::Failed(why)) => return Err(why),
         }
     }
