@@ -57,12 +57,6 @@ lt_of {a} {b} l n = ⊎_elim (λ (e : a ≡ b). absurd (n e)) (λ (m : a < b). m
 pub ge_of : {a b : ℕ} → a ≡ b → b ≤ a
 ge_of e = omega arith
 
-pub turn_of : {slot slots n : ℕ} → slots ≡ n → slot < slots → slot < n
-turn_of e l = omega arith
-
-pub over_of : {slot slots n : ℕ} → slots ≡ n → slots ≤ slot → n ≤ slot
-over_of e l = omega arith
-
 pub at_is : {offset n slot at place : ℕ} → offset ≡ n → at ≡ slot → place ≡ offset + 8 * at → place ≡ n + 8 * slot
 at_is e₁ e₂ e₃ = omega arith
 

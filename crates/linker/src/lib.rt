@@ -126,7 +126,9 @@ fn relocate(
     let n = names.relocations.len() / RELOCATION_SIZE;
     let mut cur = relocations_before(names.relocations, home, offset);
     let mut now = st;
-    for slot in 0..slots.0 {
+    let mut slot = 0;
+    // Not a `for`, which reads its end once: that the length has grown is an error that this test could make (error_grown_length).
+    while slot < slots.0 {
         let here = slot_at(slot);
         let at = place(offset, here);
         // nested in the visit and yielded by break, with a cursor that stays: the form that document 01 names
@@ -148,6 +150,7 @@ fn relocate(
             let there = slot_at(now.starts[to.callee] as u32);
             point(image.slots, after(start, here), there, to.reference);
         }
+        slot += 1;
     }
     Ok(now)
 }

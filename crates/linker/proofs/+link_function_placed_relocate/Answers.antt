@@ -3,8 +3,9 @@ use mathlib.Core.Path.{◌≡◌, sym, ap, subst, ◌∙◌}
 use mathlib.Core.Bool.{true}
 use mathlib.Core.Option.{none}
 use lib.ListN.{length}
-use Prim.Native.Nat.{ℕ, ◌+◌, ◌*◌}
+use Prim.Native.Nat.{ℕ, ◌+◌, ◌*◌, ◌≤◌, ◌<◌}
 use native.Mathlib.Omega.{arith}
+use Rattle.std.proofs.Common.{rules}
 use Rattle.std.specs.Prelude.{Ok, Err, Some}
 use Rattle.std.proofs.lemmas.Result.{err_from_is_err_and}
 use Rattle.rules.specs.declared.Image.{Image}
@@ -89,8 +90,9 @@ found-is t c =
 pub relocate-resolve-requires : goal.relocate-resolve-requires
 relocate-resolve-requires t c =
     let a = c.args in
+    let turn : c.loop-slot.slot < function_slots c.args.names.functions.now c.args.row = search rules in
     subst (λ (n : ℕ). Resolves (lent_code a.names a.program.instructions.now) a.row a.first.0 n c.if-cur-n.rel)
-    (sym c.slot_at-here.ensures) (ways.resolves c.requires c.loop-slot.invariant.0 (ways.turn_of c.function_slots-slots.ensures c.loop-slot-test.true) _ (found-is t (goal.at.relocate-resolve-requires t c).Joined-cur-n))
+    (sym c.slot_at-here.ensures) (ways.resolves c.requires c.loop-slot.invariant.0 turn _ (found-is t (goal.at.relocate-resolve-requires t c).Joined-cur-n))
 
 -- the slot that was resolved is the one that the loop stands at
 means : (t : ℕ) (c : relocate-After-resolve t) →
@@ -105,29 +107,32 @@ means t c =
 
 pub relocate-returns-in_err-meaning-clause-visited : goal.relocate-returns-in_err-meaning-clause-visited
 relocate-returns-in_err-meaning-clause-visited t c =
+    let turn : c.loop-slot.slot < function_slots c.args.names.functions.now c.args.row = search rules in
     let p = err_from_is_err_and c.from_residual.result c.from_residual.ensures.1 in
     rw (p.1, p.2)
-    (ways.on_refused c.requires c.loop-slot.invariant.0 (ways.turn_of c.function_slots-slots.ensures c.loop-slot-test.true) _ c.in_err-meaning.was (means t (goal.at.relocate-returns-in_err-meaning-clause-visited t c).After-resolve))
+    (ways.on_refused c.requires c.loop-slot.invariant.0 turn _ c.in_err-meaning.was (means t (goal.at.relocate-returns-in_err-meaning-clause-visited t c).After-resolve))
 
 pub relocate-placed-requires : goal.relocate-placed-requires
-relocate-placed-requires t c = (
-  rw (← c.decreases) (omega (arith, steps.visit_falls c.requires c.loop-slot.invariant.0)),
-  ways.asks_placed c.requires c.loop-slot.invariant.0 (ways.turn_of c.function_slots-slots.ensures c.loop-slot-test.true) c.in-Some.to
-      (ways.by c.requires c.loop-slot.invariant.0 (ways.turn_of c.function_slots-slots.ensures c.loop-slot-test.true) (c.in_ok-meaning.was ∙ ap Ok c.in-Some.is) (means t (goal.at.relocate-placed-requires t c).After-resolve)),
-)
+relocate-placed-requires t c =
+    let turn : c.loop-slot.slot < function_slots c.args.names.functions.now c.args.row = search rules in (
+      rw (← c.decreases) (omega (arith, steps.visit_falls c.requires c.loop-slot.invariant.0)),
+      ways.asks_placed c.requires c.loop-slot.invariant.0 turn c.in-Some.to
+          (ways.by c.requires c.loop-slot.invariant.0 turn (c.in_ok-meaning.was ∙ ap Ok c.in-Some.is) (means t (goal.at.relocate-placed-requires t c).After-resolve)),
+    )
 
 pub relocate-returns-in_err-now-clause-visited : goal.relocate-returns-in_err-now-clause-visited
 relocate-returns-in_err-now-clause-visited t c =
+    let turn : c.loop-slot.slot < function_slots c.args.names.functions.now c.args.row = search rules in
     let p = err_from_is_err_and c.from_residual-in_err-now.result c.from_residual-in_err-now.ensures.1 in
     rw (p.1, p.2)
-    (ways.out_refused c.requires c.loop-slot.invariant.0 (ways.turn_of c.function_slots-slots.ensures c.loop-slot-test.true) c.in-Some.to
-    (ways.by c.requires c.loop-slot.invariant.0 (ways.turn_of c.function_slots-slots.ensures c.loop-slot-test.true) (c.in_ok-meaning.was ∙ ap Ok c.in-Some.is) (means t (goal.at.relocate-returns-in_err-now-clause-visited t c).After-resolve))
+    (ways.out_refused c.requires c.loop-slot.invariant.0 turn c.in-Some.to
+    (ways.by c.requires c.loop-slot.invariant.0 turn (c.in_ok-meaning.was ∙ ap Ok c.in-Some.is) (means t (goal.at.relocate-returns-in_err-now-clause-visited t c).After-resolve))
     c.in_err-now.ensures.placed)
 
 pub relocate-loop-slot-preserved : goal.relocate-loop-slot-preserved
 relocate-loop-slot-preserved t c =
     let inv = c.loop-slot.invariant.0 in
-    let turn = ways.turn_of c.function_slots-slots.ensures c.loop-slot-test.true in
+    let turn : c.loop-slot.slot < function_slots c.args.names.functions.now c.args.row = search rules in
     let m = means t (goal.at.relocate-loop-slot-preserved t c).After-resolve in
     let behind = ways.behind_next c.requires c.loop-slot.slot c.loop-cur.cur c.loop-cur.invariant.1 in
     elim c.match-meaning.branch [
@@ -145,4 +150,5 @@ relocate-loop-slot-preserved t c =
 
 pub relocate-returns-clause-visited : goal.relocate-returns-clause-visited
 relocate-returns-clause-visited t c =
-    steps.visit_done c.requires c.loop-slot.invariant.0 (ways.over_of c.function_slots-slots.ensures c.loop-slot-test.false)
+    let over : function_slots c.args.names.functions.now c.args.row ≤ c.loop-slot.slot = search rules in
+    steps.visit_done c.requires c.loop-slot.invariant.0 over

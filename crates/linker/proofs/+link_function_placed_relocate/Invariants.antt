@@ -32,3 +32,6 @@ invariant-relocate-loop-slot l =
     Inv (lent l.names l.program) l.initial.now (lent_image l.initial.image) l.row l.start.0 (function_slots l.names.functions.now l.row) l.now (lent_image l.image) l.slot
     × ((l.cur ≤ whole_rows Relocations relocations) × Behind relocations (function_section l.names.functions.now l.row) (function_offset l.names.functions.now l.row + 8 * l.slot) l.cur)
     × SameOutputs l.initial.image l.image
+
+abbrev pub decreases-relocate-loop-slot : goal.decreases-relocate-loop-slot
+decreases-relocate-loop-slot l = function_slots l.names.functions.now l.row - l.slot
