@@ -1,19 +1,17 @@
 -- Where the rows of table 4 at or after a place begin: the rows before it stand first, since (section, offset) rises.
 -- Assumes nothing.
-use mathlib.Core.Path.{◌≡◌, refl, sym, ap, ◌∙◌}
+use mathlib.Core.Path.{◌≡◌, sym, ap, ◌∙◌}
 use mathlib.Core.Logic.{◌⊎◌, inl, inr}
 use mathlib.Core.Bool.{true, false}
 use mathlib.Core.List.{List, []}
-use Prim.Native.Nat.{ℕ, zero, suc, ◌+◌, ◌*◌, ◌≤◌, ◌<◌}
+use Prim.Native.Nat.{ℕ, ◌≤◌, ◌<◌}
 use native.Mathlib.Nat.{eq-or-lt_of_le}
 use native.Mathlib.Omega.{arith}
-use lib.ListN.{length, take, drop, get_or}
-use lib.Seq.{drop-drop, get_or-take, get_or-drop}
+use lib.ListN.{length, get_or}
 use Rattle.std.specs.Simd.{first_chunks}
 use Rattle.std.specs.List.Sorted.{IsPartitionedBy, IsPartitionPoint}
-use Rattle.rules.specs.Bytes.{little, u32_at, u64_at}
 use Rattle.rules.specs.declared.Table.TheVariants.{Relocations}
-use Rattle.rules.specs.Rows.{row_size, whole_rows, relocation_section, relocation_offset}
+use Rattle.rules.specs.Rows.{row_size, whole_rows}
 use Rattle.rules.specs.Lookups.{Sound, RisingPair, relocations_before}
 use Rattle.rules.proofs.Searches.{before_chain}
 use Rattle.rules.proofs.Passed.{below_before, before_below, relocations_rise}

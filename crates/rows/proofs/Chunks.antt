@@ -4,7 +4,7 @@
 use mathlib.Core.Path.{◌≡◌, refl, sym, ap, ◌∙◌}
 use mathlib.Core.Bool.{Bool, true, false, cond, ◌||◌}
 use mathlib.Core.Option.{some}
-use mathlib.Core.List.{List, []}
+use mathlib.Core.List.{List}
 use Prim.Native.Nat.{ℕ, zero, suc, ◌+◌, ◌*◌, ◌≤◌, ◌<◌}
 use native.Mathlib.Omega.{arith}
 use native.Mathlib.Nat.{zero-add}
@@ -16,11 +16,11 @@ use Rattle.std.specs.Simd.{first_chunks}
 use Rattle.std.specs.List.{list_any, position_from}
 use Rattle.std.specs.Prelude as prelude
 use Rattle.rules.specs.Bytes.{little, u32_at, u64_at}
-use Rattle.rules.specs.declared.Table.TheVariants.{Code, Symbols, Functions, Relocations, Maps}
-use Rattle.rules.specs.Rows.{row_size, first_from, any_from, code_section, symbol_index, function_section, function_address, relocation_section, relocation_offset, map_section, map_symbol}
+use Rattle.rules.specs.declared.Table.TheVariants.{Code, Functions, Relocations, Maps}
+use Rattle.rules.specs.Rows.{row_size, first_from, any_from, code_section, function_section, function_address, relocation_section, relocation_offset, map_section, map_symbol}
 use Rattle.rules.specs.Lookups.{found_of}
 use Rattle.rules.proofs.Writing.{u32_same}
-use Rattle.rows.specs.Matches.{code_matches, symbol_matches, function_matches, relocation_matches, relocation_is_before, map_symbol_matches, map_section_matches}
+use Rattle.rows.specs.Matches.{code_matches, function_matches, relocation_matches, relocation_is_before, map_symbol_matches, map_section_matches}
 
 module _ (size : ℕ) where
   pub rows_length : (n : ℕ) (t : List ℕ) → length (first_chunks size n t) ≡ n
@@ -98,10 +98,6 @@ module _ (t : List ℕ) (k : ℕ) where
   pub code_row : (home : ℕ) → code_matches (take (row_size Code) (drop (row_size Code * k) t)) home 0 ≡ code_matches t home k
   unfolding code_section
   code_row home = rw (word_is (row_size Code) t k 0 (row_size Code * k) (omega arith) (omega arith)) refl
-
-  pub symbol_row : (index : ℕ) → symbol_matches (take (row_size Symbols) (drop (row_size Symbols * k) t)) index 0 ≡ symbol_matches t index k
-  unfolding symbol_index
-  symbol_row index = rw (word_is (row_size Symbols) t k 0 (row_size Symbols * k) (omega arith) (omega arith)) refl
 
   pub function_row : (home : ℕ) (address : ℤ) → function_matches (take (row_size Functions) (drop (row_size Functions * k) t)) home address 0 ≡ function_matches t home address k
   unfolding function_section function_address u64_at

@@ -1,5 +1,5 @@
 // The first row of a checked table that has the numbers asked for. A search is `position` over the rows as arrays, by the test of one row, which
-// stands at 0 in its own bytes: by row numbers each row costs more. That the table was checked (`Sound`) is asked of the bytes, since docs/CLAIMS.md names these functions and their callers hold bytes.
+// stands at 0 in its own bytes: `find` over row numbers costs more for each row. That the table was checked (`Sound`) is asked of the bytes, since docs/CLAIMS.md names these functions and their callers hold bytes.
 // Section and address stay two parameters: docs/CLAIMS.md names the searches by them, and an address is an i64 that may lie outside where an
 // offset is a ByteOffset. That row k is there is asked by the tests, as by the readers (fields.rt).
 ghost use Rattle.std.specs.Prelude.{◌≡◌, ◌+◌, ◌*◌, ◌≤◌, length};
@@ -79,12 +79,17 @@ pub fn is_code(t: &[u8], home: u32) -> bool
     rows.iter().any(|row| code_section(row, 0) == home)
 }
 
+// A `for`, and no `position`: the map step over many symbols takes a quarter less (docs/LOOK-BACK.md).
 pub fn find_symbol(t: &[u8], index: u32) -> Option<usize>
     requires { Sound Symbols t.now }
     ensures { result ≡ found_of (symbol_with t.now index) }
 {
-    let (rows, _) = t.as_chunks::<SYMBOL_SIZE>();
-    rows.iter().position(|row| symbol_index(row, 0) == index)
+    for k in 0..t.len() / SYMBOL_SIZE {
+        if symbol_index(t, k) == index {
+            return Some(k);
+        }
+    }
+    None
 }
 
 pub fn find_function(t: &[u8], home: u32, address: i64) -> Option<usize>

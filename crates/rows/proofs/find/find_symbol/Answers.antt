@@ -1,26 +1,21 @@
--- The first row that passes the test of one row.
-use mathlib.Core.Path.{◌∙◌}
-use mathlib.Core.Bool.{Bool}
-use mathlib.Core.List.{List}
-use Prim.Native.Nat.{ℕ}
-use borrow.Author.Rules.{rules}
-use borrow.Author.Tests.{tests}
-use Rattle.std.proofs.lemmas.Iterator.{YieldsList-from_slice}
-use Rattle.std.proofs.lemmas.Iterator.Adapters.{position_from-zero}
-use Rattle.std.proofs.lemmas.Iterator.Search.{position_from_yields_List}
-use Rattle.rules.specs.declared.Table.TheVariants.{Symbols}
-use Rattle.rules.specs.Rows.{row_size, whole_rows}
-use Rattle.rules.specs.Lookups.{symbol_with}
-use Rattle.rows.specs.Matches.{symbol_matches}
-use Rattle.rows.proofs.Chunks.{position_is, symbol_row}
+-- The first row that has the index, or none: no row before has it.
+use mathlib.Core.Path.{sym, ap, ◌∙◌}
+use native.Mathlib.Omega.{arith}
+use borrow.Author.Tests.{eq-eqb, ne_eqb}
+use Rattle.std.proofs.Common.{below_more}
+use Rattle.rules.specs.Lookups.{found_of, symbol_with}
+use Rattle.rules.proofs.Searches.{first_at, first_nothing}
 use Rattle.rows.proofs.find.find_symbol.Goals as goal
+
+pub returns-then-symbol_index-index : goal.returns-then-symbol_index-index
+unfolding symbol_with
+returns-then-symbol_index-index c =
+    sym (ap found_of (first_at _ _ c.loop-k.k (omega arith) (eq-eqb _ _ (sym c.symbol_index.ensures ∙ c.if-symbol_index-index.true)) c.loop-k.invariant))
+
+pub loop-k-preserved : goal.loop-k-preserved
+loop-k-preserved c =
+    below_more _ _ c.loop-k.invariant (ne_eqb _ _ (λ e. c.if-symbol_index-index.false (c.symbol_index.ensures ∙ e)))
 
 pub returns : goal.returns
 unfolding symbol_with
-returns c =
-    let a = c.args in
-    let n = whole_rows Symbols a.t.now in
-    let test : List ℕ → Bool = λ row. symbol_matches row a.index 0 in
-    position_from_yields_List test _ _ c.position.result c.position.ensures.ran (YieldsList-from_slice _ (c.iter.ensures.rest ∙ c.as_chunks.ensures.front)) (λ x b q k. search (rules, tests))
-    ∙ position_from-zero test _
-    ∙ position_is (row_size Symbols) test (symbol_matches a.t.now a.index) n a.t.now (λ j. symbol_row a.t.now j a.index)
+returns c = sym (ap found_of (first_nothing _ _ (λ j l. c.loop-k.invariant j (omega (arith, l)))))
