@@ -17,9 +17,9 @@
  * It is written on every answer. What the numbers say stands with each answer below.
  *
  * Stack. A link recurses once for each function that it appends, 64 at most. The deepest, a chain of 64 functions
- * that ends in a call of the root, was measured at 94,396 bytes; give a thread that links 128 KiB beside its own. A link
- * with rows lays them into a table of its own, 24,600 bytes of the stack, and was measured at 119,004: give it 160 KiB.
- * A link with its list was measured at 94,428: 128 KiB. No other function here recurses; an examination was measured at
+ * that ends in a call of the root, was measured at 94,400 bytes; give a thread that links 128 KiB beside its own. A link
+ * with rows lays them into a table of its own, 24,600 bytes of the stack, and was measured at 119,008: give it 160 KiB.
+ * A link with its list was measured at 94,432: 128 KiB. No other function here recurses; an examination was measured at
  * 912 bytes, and needs 16 KiB at most.
  * tests/stack.c measures all four, and fails past 128, 160, 128 and 16 KiB.
  *
